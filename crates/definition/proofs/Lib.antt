@@ -1,0 +1,11 @@
+pub mod KeyHolds
+pub mod SameText
+pub mod PrintEquations
+pub mod OnlySwift
+pub mod ParamNames
+pub mod WordsAdded
+pub mod Simulation
+pub mod OperatorsAlike
+pub mod WordsAlike
+pub mod JudgingAlike
+pub mod Room

@@ -1,0 +1,17 @@
+pub mod Base
+pub mod Text
+pub mod Words
+pub mod Kind
+pub mod Node
+pub mod Print
+pub mod Budget
+pub mod Machine
+pub mod Operators
+pub mod Perform
+pub mod Calls
+pub mod Reading
+pub mod Shape
+pub mod Check
+pub mod Key
+pub mod Enums
+pub mod Alike
