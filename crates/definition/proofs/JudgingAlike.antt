@@ -23,6 +23,7 @@ use Rattle.definition.specs.Calls.{Answer, refusal, accepted, within, go
 use Rattle.definition.specs.Reading as R
 use Rattle.definition.specs.Check as C
 use Rattle.definition.specs.Alike.{enough, with-text, WholeAlike, JudgedAlike}
+use Rattle.definition.proofs.SameText.{passed, failed}
 use Rattle.definition.proofs.Simulation.{Filled, Inv, shapes, Sound, Sim, Any, itself, bind, ret-sim, refuse-sim, spend-sim, know-sim, remember-sim, push-sim}
 use Rattle.definition.proofs.OperatorsAlike.{perform-sim}
 use Rattle.definition.proofs.WordsAlike.{Agree, agree-itself, FilledWords, identified-as, identifier-alike}
@@ -123,21 +124,13 @@ refusal-judged n p out = record {
   too-long = λ _ h. absurd (omega (arith, h));
 }
 
-within-true : (b : Bool) (x y : Answer) → T b → (if b then x else y) ≡ x
-within-true true x y h = refl
-within-true false x y h = absurd h
-
-within-false : (b : Bool) (x y : Answer) → T (not b) → (if b then x else y) ≡ y
-within-false true x y h = absurd h
-within-false false x y h = refl
-
 -- accepted by both, with a text and with none
 accepted-judged : (b : B.Budget) (text : List ℕ) → Judged (accepted b text) (accepted b [])
 unfolding accepted within
 accepted-judged b text out = record {
   refused = λ h. absurd h;
-  accepted = λ _ h. within-true (leb (length text) out) (accepted b text) (refusal 12 0) (le→leb (length text) out h);
-  too-long = λ _ h. within-false (leb (length text) out) (accepted b text) (refusal 12 0) (not-T (leb (length text) out) (λ q. omega (arith, leb→le (length text) out q, h)));
+  accepted = λ _ h. rw (passed (leb (length text) out) (le→leb (length text) out h)) refl;
+  too-long = λ _ h. rw (failed (leb (length text) out) (not-T (leb (length text) out) (λ q. omega (arith, leb→le (length text) out q, h)))) refl;
 }
 
 finished-judged : (takes : ℕ → Bool) (text : Node → List ℕ) (s : Symbol) (m : Demangler) → Judged (finished kind takes text s m) (finished kind-of takes (λ e. []) s (shapes m))

@@ -23,6 +23,7 @@ use Rattle.definition.specs.Shape as C
 use Rattle.definition.specs.Check as Ch
 use Rattle.definition.specs.Calls.{End, ran, stopped, then-run, turn, turns}
 use Rattle.definition.specs.Perform.{Demangler}
+use Rattle.definition.proofs.SameText.{both}
 use Rattle.definition.proofs.Simulation.{shapes}
 use Rattle.definition.proofs.JudgingAlike.{read-turns, check-turns, shapes-end, runs-alike}
 use Rattle.definition.specs.Shape.{Shapes, Check, kind-of, Take, Leaves, Taken, taken}
@@ -521,10 +522,6 @@ rows-make-four Op.protocol-witness = tt
 rows-make-four Op.associated-type = tt
 rows-make-four Op.associated-conformance = tt
 
-both : (a b : Bool) → T (a && b) → T a × T b
-both true b h = (tt, h)
-both false b h = absurd h
-
 -- TURNS
 module _ (N : ℕ) where
   row-fits : (r : C.Row) → T (row-makes-four r) → Holds (Fits 1) (C.run-row N r) (λ x s. Fits 0 s)
@@ -592,6 +589,19 @@ module _ (N : ℕ) where
   turn-fits : (t : Text) → Holds (Fits 0) (turn N (Ch.one N) t) (λ u s. Fits 0 s)
   unfolding turn
   turn-fits t = bind _ (step-fits 0) λ _. bind _ (charge-fits 0 1) λ _. one-fits t
+
+  kept : (P : Shapes → Type 0) {A : Type 0} (e : Check A) → Holds P e (λ x s. Fits 0 s) → (s s₁ : Shapes) (a : A) → P s → e s ≡ ok a s₁ → Fits 0 s₁
+  kept P e h s s₁ a p q = rw q at (h .at s p)
+
+  -- one operator, given the charge of its turn; and one turn
+  pub row-keeps : (op : Op.Operator) (s s₁ : Shapes) → Fits 1 s → C.run-row N (C.row op) s ≡ ok tt s₁ → Fits 0 s₁
+  row-keeps op s s₁ f q = kept (Fits 1) (C.run-row N (C.row op)) (row-fits (C.row op) (rows-make-four op)) s s₁ tt f q
+
+  pub name-keeps : (words : ℕ) (s s₁ : Shapes) → Fits 1 s → Ch.name N words s ≡ ok tt s₁ → Fits 0 s₁
+  name-keeps words s s₁ f q = kept (Fits 1) (Ch.name N words) (name-fits words) s s₁ tt f q
+
+  pub turn-keeps : (t u : Text) (s s₁ : Shapes) → Fits 0 s → turn N (Ch.one N) t s ≡ ok u s₁ → Fits 0 s₁
+  turn-keeps t u s s₁ f q = kept (Fits 0) (turn N (Ch.one N) t) (turn-fits t) s s₁ u f q
 
   abbrev FitsEnd : End Shapes → Type 0
   FitsEnd (ran s) = Fits 0 s

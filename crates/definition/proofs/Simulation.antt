@@ -21,6 +21,7 @@ use Rattle.definition.specs.Perform as R
 use Rattle.definition.specs.Perform.{Demangler, Run}
 use Rattle.definition.specs.Shape as C
 use Rattle.definition.specs.Shape.{Shapes, Check, kind-of, Taken, taken}
+use Rattle.definition.proofs.SameText.{failed}
 
 -- WHAT HOLDS OF A MACHINE OF TREES
 abbrev pub All : (Node → Type 0) → List Node → Type 0
@@ -291,10 +292,6 @@ viewed VariadicMarker = (tt, tt)
 viewed Throws = (tt, tt)
 viewed Async = (tt, tt)
 
-if-false : {A : Type 0} (b : Bool) (x y : A) → T (not b) → (if b then x else y) ≡ y
-if-false true x y h = absurd h
-if-false false x y h = refl
-
 -- the parameters of a function type by the entry of its parameter node
 pub params-by-entry : (p : Node) → param-count p ≡ (if eqb (kind p) K.tuple then count p else 1)
 unfolding param-count count kind view
@@ -306,7 +303,7 @@ params-by-entry p = go (view p) refl (viewed p)
     go (taking q) e v = rw (v .3) refl
     go (under i) e v = rw (v .1) refl
     go (composed ps) e v = rw v refl
-    go other e v = rw (e, param-count) (sym (if-false (eqb (kind p) K.tuple) (count p) 1 (v .0)))
+    go other e v = rw (e, param-count, failed (eqb (kind p) K.tuple) (v .0)) refl
 
 -- a protocol has no count
 pub protocol-count : (n : Node) → T (K.is-protocol (kind n)) → count n ≡ 0
@@ -435,7 +432,7 @@ labels-sim n empty = if-sim empty (λ _. ret-sim _ tt) (λ _. go n)
 -- a type that is no generic type asks for the labels of its own parameters
 arity-plain : (t : Node) → Good t → R.arity t ≡ R.arity-of t
 unfolding R.arity
-arity-plain t g = if-false (eqb (kind t) K.generic-type) (R.arity-of (inner-of t)) (R.arity-of t) (g .0)
+arity-plain t g = rw (failed (eqb (kind t) K.generic-type) (g .0), R.arity) refl
 
 -- the type under a signature that was taken, or by itself: how many labels it asks for, and its size by what the check took
 pub record UnderSignature (o : Option Node) (t : Node) (z : ℕ) (ty : Node) : Type 0 where
