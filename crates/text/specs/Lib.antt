@@ -1,0 +1,3 @@
+pub mod Cursor
+pub mod Utf8
+pub mod Symbol
