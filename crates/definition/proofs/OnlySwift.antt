@@ -7,7 +7,7 @@ use Prim.Native.String.{String}
 use lib.Dec.{T, eqb}
 use Rattle.definition.specs.Base.{Name, bytes, same}
 use Rattle.definition.specs.Kind as K
-use Rattle.definition.specs.Node.{NominalKind, Node, Identifier, Module, Nominal, GenericParam, DependentMember, Tuple, FunctionType, GenericType, GenericSignature, ConformanceRequirement, SameTypeRequirement, ProtocolList, Metatype, InOut, BoundGeneric, Function, Variable, Accessor, Initializer, Deinitializer, VariableInitializer, Static, Record, Conformance, ProtocolWitness, ValueWitness, EmptyList, FirstElementMarker, VariadicMarker, Throws, Async, kind}
+use Rattle.definition.specs.Node.{NominalKind, Node, Identifier, Module, Nominal, GenericParam, DependentMember, Tuple, FunctionType, GenericType, GenericSignature, ConformanceRequirement, SameTypeRequirement, ProtocolList, Metatype, InOut, BoundGeneric, Function, Variable, Accessor, Initializer, Deinitializer, VariableInitializer, Static, Record, Conformance, ProtocolWitness, ValueWitness, EmptyList, FirstElementMarker, VariadicMarker, Throws, Async, LazyWitness, AssociatedConformance, kind}
 use Rattle.definition.specs.Print.{dotted, initializer-name, deinitializer-name, printed, print-nominal, print-variable, printing, print}
 use Rattle.definition.proofs.SameText.{same→≡, has, has-left}
 use Rattle.definition.proofs.PrintEquations.{has-dotted, accessor-has-dot, standard, standard-of-nominal}
@@ -58,6 +58,8 @@ only-swift FirstElementMarker h e = absurd h
 only-swift VariadicMarker h e = absurd h
 only-swift Throws h e = absurd h
 only-swift Async h e = absurd h
+only-swift (LazyWitness w t c) h e = absurd h
+only-swift (AssociatedConformance p q n r) h e = absurd h
 
 -- the same as a test: the kind is looked at before the text, which of a module is its name (`print-module` of PrintEquations)
 pub swift-by-kind : (c : Node) → T (K.is-context (kind c)) → same (print c) (bytes "Swift") ≡ (eqb (kind c) K.module-kind && same (print c) (bytes "Swift"))

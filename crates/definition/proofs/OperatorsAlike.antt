@@ -12,7 +12,7 @@ use Rattle.definition.specs.Text.{Param}
 use Rattle.definition.specs.Kind as K
 use Rattle.definition.specs.Kind.{Entry, entry}
 use Rattle.definition.specs.Node as N
-use Rattle.definition.specs.Node.{Labels, NominalKind, Node, Nodes, nil, cons, Identifier, Module, Nominal, GenericParam, DependentMember, Tuple, FunctionType, GenericType, GenericSignature, ConformanceRequirement, SameTypeRequirement, ProtocolList, Metatype, InOut, BoundGeneric, Function, Variable, Accessor, Initializer, Deinitializer, VariableInitializer, Static, Record, Conformance, ProtocolWitness, ValueWitness, EmptyList, FirstElementMarker, VariadicMarker, Throws, Async, nominal-kind, kind, size, sizes, count, many, view, param-count, entry-of}
+use Rattle.definition.specs.Node.{Labels, NominalKind, Node, Nodes, nil, cons, Identifier, Module, Nominal, GenericParam, DependentMember, Tuple, FunctionType, GenericType, GenericSignature, ConformanceRequirement, SameTypeRequirement, ProtocolList, Metatype, InOut, BoundGeneric, Function, Variable, Accessor, Initializer, Deinitializer, VariableInitializer, Static, Record, Conformance, ProtocolWitness, ValueWitness, EmptyList, FirstElementMarker, VariadicMarker, Throws, Async, LazyWitness, AssociatedConformance, nominal-kind, kind, size, sizes, count, many, view, param-count, entry-of}
 use Rattle.definition.specs.Operators as Op
 use Rattle.definition.specs.Budget as B
 use Rattle.definition.specs.Machine as M
@@ -220,7 +220,7 @@ module _ (N : ℕ) where
 
   lazy-witness-sim : (what : Name) → Alike (R.lazy-witness what) (run-row N (row (Op.lazy-witness what)))
   unfolding R.lazy-witness run-row row C.taking kind size count view
-  lazy-witness-sim what = conformance-then _ _ λ t p m. bind _ _ (pop-if-sim K.is-type) λ t₂ _. leave-sim _ _ (Record what (Identifier _)) (tt, tt) refl refl refl
+  lazy-witness-sim what = conformance-then _ _ λ t p m. bind _ _ (pop-if-sim K.is-type) λ t₂ _. leave-sim _ _ (LazyWitness what t₂ (Conformance t p m)) (tt, tt) refl refl refl
 
   protocol-witness-sim : Alike R.protocol-witness (run-row N (row Op.protocol-witness))
   unfolding R.protocol-witness run-row row C.taking kind size count view
@@ -234,7 +234,7 @@ module _ (N : ℕ) where
   unfolding R.associated-conformance run-row row C.taking kind size count view
   associated-conformance-sim =
       bind _ _ protocol-sim λ r _. bind _ _ (took-sim K.first-element-marker) λ _ _. bind _ _ (try-sim K.is-protocol) λ q _. bind _ _ pop-name-sim λ name _. bind _ _ (pop-if-sim K.is-type) λ p _.
-      leave-sim _ _ (Record _ (Identifier _)) (tt, tt) refl refl refl
+      leave-sim _ _ (AssociatedConformance p (R.one-or-none q) name r) (tt, tt) refl refl refl
 
   substitutions-sim : (cs : List Op.Copies) (l : Late Done) → Alike (R.substitutions N cs l) (C.recalled N cs l)
   unfolding R.substitutions C.recalled

@@ -9,8 +9,8 @@ use Prim.Native.String.{String}
 use lib.Dec.{T, eqb, leb, not-T, T-not}
 use Rattle.definition.specs.Base.{Name, bytes, same, if_then_else_}
 use Rattle.definition.specs.Kind as K
-use Rattle.definition.specs.Node.{NominalKind, Class, Struct, Enum, Protocol, TypeAlias, Labels, Node, Nodes, nil, cons, Identifier, Module, Nominal, GenericParam, DependentMember, Tuple, FunctionType, GenericType, GenericSignature, ConformanceRequirement, SameTypeRequirement, ProtocolList, Metatype, InOut, BoundGeneric, Function, Variable, Accessor, Initializer, Deinitializer, VariableInitializer, Static, Record, Conformance, ProtocolWitness, ValueWitness, EmptyList, FirstElementMarker, VariadicMarker, Throws, Async, nominal-kind, kind, many}
-use Rattle.definition.specs.Print.{join, dotted, generic-param-name, param-names, signature-text, params-from, in-parens, texts, effects, initializer-name, deinitializer-name, composition, printed, print-tuple, print-function-type, print-generic-type, print-nominal, print-variable, angled, bound, printing, elements, print, print-params}
+use Rattle.definition.specs.Node.{NominalKind, Class, Struct, Enum, Protocol, TypeAlias, Labels, Node, Nodes, nil, cons, Identifier, Module, Nominal, GenericParam, DependentMember, Tuple, FunctionType, GenericType, GenericSignature, ConformanceRequirement, SameTypeRequirement, ProtocolList, Metatype, InOut, BoundGeneric, Function, Variable, Accessor, Initializer, Deinitializer, VariableInitializer, Static, Record, Conformance, ProtocolWitness, ValueWitness, EmptyList, FirstElementMarker, VariadicMarker, Throws, Async, LazyWitness, AssociatedConformance, nominal-kind, kind, many}
+use Rattle.definition.specs.Print.{join, dotted, generic-param-name, param-names, signature-text, params-from, in-parens, texts, effects, initializer-name, deinitializer-name, composition, printed, print-tuple, print-function-type, print-generic-type, print-nominal, print-variable, angled, bound, printing, elements, print, print-params, qualified}
 use Rattle.definition.proofs.SameText.{passed, failed, both, neither, same-both, has, has-left, has-right}
 
 -- LISTS OF NODES
@@ -124,6 +124,8 @@ others FirstElementMarker = by-printed _ _ refl
 others VariadicMarker = by-printed _ _ refl
 others Throws = by-printed _ _ refl
 others Async = by-printed _ _ refl
+others (LazyWitness w t c) = by-printed _ _ refl
+others (AssociatedConformance p q n r) = by-printed _ _ refl
 
 -- PARAMETERS
 -- line 559
@@ -410,3 +412,20 @@ print-throws = refl
 pub print-async : print Async ≡ []
 unfolding print printing printed
 print-async = refl
+
+-- lines 1543 to 1549: the text that the Rust prints ahead, behind the record's words
+pub print-lazy-witness : (what : Name) (ty conformance : Node) → print (LazyWitness what ty conformance) ≡ what ++ (print ty ++ (bytes " and conformance " ++ print conformance))
+unfolding print printing printed
+print-lazy-witness what ty conformance = refl
+
+-- lines 1653 to 1661, with no qualifier and with one
+pub print-associated-conformance : (protocol : Node) (name : Name) (required : Node) →
+    print (AssociatedConformance protocol nil name required) ≡ bytes "associated conformance descriptor for " ++ (dotted (print protocol) name ++ (bytes ": " ++ print required))
+unfolding print printing printed elements texts qualified
+print-associated-conformance protocol name required = refl
+
+pub print-qualified-conformance : (protocol qualifier : Node) (name : Name) (required : Node) →
+    print (AssociatedConformance protocol (cons none qualifier nil) name required) ≡
+    bytes "associated conformance descriptor for " ++ (dotted (print protocol) (dotted (print qualifier) name) ++ (bytes ": " ++ print required))
+unfolding print printing printed elements texts qualified
+print-qualified-conformance protocol qualifier name required = refl

@@ -12,7 +12,7 @@ use Rattle.definition.specs.Words.{is-empty}
 use Rattle.definition.specs.Kind as K
 use Rattle.definition.specs.Kind.{Entry, entry}
 use Rattle.definition.specs.Node as N
-use Rattle.definition.specs.Node.{Labels, Node, Nodes, nil, cons, View, named, listed, taking, under, composed, other, Identifier, Module, Nominal, GenericParam, DependentMember, Tuple, FunctionType, GenericType, GenericSignature, ConformanceRequirement, SameTypeRequirement, ProtocolList, Metatype, InOut, BoundGeneric, Function, Variable, Accessor, Initializer, Deinitializer, VariableInitializer, Static, Record, Conformance, ProtocolWitness, ValueWitness, EmptyList, FirstElementMarker, VariadicMarker, Throws, Async, nominal-kind, kind, size, sizes, count, many, view, param-count, name-of, inner-of, first-of, member-of, entry-of}
+use Rattle.definition.specs.Node.{Labels, Node, Nodes, nil, cons, View, named, listed, taking, under, composed, other, Identifier, Module, Nominal, GenericParam, DependentMember, Tuple, FunctionType, GenericType, GenericSignature, ConformanceRequirement, SameTypeRequirement, ProtocolList, Metatype, InOut, BoundGeneric, Function, Variable, Accessor, Initializer, Deinitializer, VariableInitializer, Static, Record, Conformance, ProtocolWitness, ValueWitness, EmptyList, FirstElementMarker, VariadicMarker, Throws, Async, LazyWitness, AssociatedConformance, nominal-kind, kind, size, sizes, count, many, view, param-count, name-of, inner-of, first-of, member-of, entry-of}
 use Rattle.definition.specs.Budget as B
 use Rattle.definition.specs.Budget.{Budget}
 use Rattle.definition.specs.Machine as M
@@ -291,6 +291,8 @@ viewed FirstElementMarker = (tt, tt)
 viewed VariadicMarker = (tt, tt)
 viewed Throws = (tt, tt)
 viewed Async = (tt, tt)
+viewed (LazyWitness w t c) = (tt, tt)
+viewed (AssociatedConformance p q n r) = (tt, tt)
 
 -- the parameters of a function type by the entry of its parameter node
 pub params-by-entry : (p : Node) → param-count p ≡ (if eqb (kind p) K.tuple then count p else 1)

@@ -15,7 +15,8 @@ pub data NominalKind : Type 0 where
 abbrev pub Labels : Type 0
 Labels = Option (List (Option Name))
 
--- lines 83 to 200
+-- lines 83 to 200. The last two are forms of their own for records about an identifier whose text the Rust prints ahead (`Wl` and `WL`, lines
+-- 1532 to 1550; `Tn`, lines 1642 to 1662): they keep what is printed, with no qualifier or one. Their kind is `Record`
 mutual
   pub data Node : Type 0 where
     Identifier : Name → Node
@@ -45,6 +46,8 @@ mutual
     ProtocolWitness : (entity conformance : Node) → Node
     ValueWitness : (kind : Name) → (ty : Node) → Node
     EmptyList FirstElementMarker VariadicMarker Throws Async : Node
+    LazyWitness : (what : Name) → (ty conformance : Node) → Node
+    AssociatedConformance : (protocol : Node) → (qualifier : Nodes) → Name → (required : Node) → Node
 
   -- nodes in the source's order, each with the label that a tuple may give it
   pub data Nodes : Type 0 where
@@ -90,8 +93,10 @@ kind FirstElementMarker = K.first-element-marker
 kind VariadicMarker = K.variadic-marker
 kind Throws = K.throws
 kind Async = K.async
+kind (LazyWitness w t c) = K.record-kind
+kind (AssociatedConformance p q n r) = K.record-kind
 
--- lines 255 to 300
+-- lines 255 to 300; a record whose text is printed ahead is two nodes
 unfoldable mutual
   pub size : Node → ℕ
   size (Identifier n) = 1
@@ -125,6 +130,8 @@ unfoldable mutual
   size VariadicMarker = 1
   size Throws = 1
   size Async = 1
+  size (LazyWitness w t c) = 2
+  size (AssociatedConformance p q n r) = 2
 
   pub sizes : Nodes → ℕ
   sizes nil = 0
@@ -177,6 +184,8 @@ view FirstElementMarker = other
 view VariadicMarker = other
 view Throws = other
 view Async = other
+view (LazyWitness w t c) = other
+view (AssociatedConformance p q n r) = other
 
 -- the parameters of a function type whose parameter node is p: those of a tuple, else 1 (lines 1311 to 1314)
 unfoldable pub param-count : Node → ℕ

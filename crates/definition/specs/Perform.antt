@@ -11,8 +11,7 @@ use Rattle.definition.specs.Machine.{opened as opened₂}
 use Rattle.definition.specs.Base.{Name, bytes, if_then_else_, given, Out, ok, refused, Step, Done, ret, refuse, unless, and-then, _>>=_, _>>_, Late, judge}
 use Rattle.definition.specs.Text.{Param}
 use Rattle.definition.specs.Kind as K
-use Rattle.definition.specs.Node.{NominalKind, Enum, Protocol, Labels, Node, Nodes, nil, cons, Identifier, Module, Nominal, GenericParam, DependentMember, Tuple, FunctionType, GenericType, GenericSignature, ConformanceRequirement, SameTypeRequirement, ProtocolList, Metatype, InOut, BoundGeneric, Function, Variable, Accessor, Initializer, Deinitializer, VariableInitializer, Static, Record, Conformance, ProtocolWitness, ValueWitness, EmptyList, FirstElementMarker, VariadicMarker, Throws, Async, kind, size, count, name-of, inner-of, member-of}
-use Rattle.definition.specs.Print.{print, dotted}
+use Rattle.definition.specs.Node.{NominalKind, Enum, Protocol, Labels, Node, Nodes, nil, cons, Identifier, Module, Nominal, GenericParam, DependentMember, Tuple, FunctionType, GenericType, GenericSignature, ConformanceRequirement, SameTypeRequirement, ProtocolList, Metatype, InOut, BoundGeneric, Function, Variable, Accessor, Initializer, Deinitializer, VariableInitializer, Static, Record, Conformance, ProtocolWitness, ValueWitness, EmptyList, FirstElementMarker, VariadicMarker, Throws, Async, LazyWitness, AssociatedConformance, kind, size, count, name-of, inner-of, member-of}
 use Rattle.definition.specs.Operators as Op
 use Rattle.definition.specs.Budget as B
 use Rattle.definition.specs.Machine as M
@@ -300,12 +299,12 @@ about Op.a-protocol = protocol
 about Op.a-conformance = conformance
 about Op.anything = pop
 
--- `Wl` and `WL` (lines 1532 to 1550): the text is printed ahead
+-- `Wl` and `WL` (lines 1532 to 1550)
 unfoldable pub lazy-witness : Name → Run Done
 lazy-witness what = do
   c ← conformance
   ty ← pop-if K.is-type
-  push (Record what (Identifier (print ty ++ (bytes " and conformance " ++ print c))))
+  push (LazyWitness what ty c)
 
 -- `TW` (lines 1605 to 1612)
 unfoldable pub protocol-witness : Run Done
@@ -321,10 +320,10 @@ associated-type = do
   name ← pop-name
   push (Record (bytes "associated type descriptor for ") (DependentMember p name))
 
--- `Tn` (lines 1642 to 1662): the text is printed ahead
-unfoldable pub path : Option Node → Name → Name
-path none name = name
-path (some qualifier) name = dotted (print qualifier) name
+-- `Tn` (lines 1642 to 1662)
+unfoldable pub one-or-none : Option Node → Nodes
+one-or-none none = nil
+one-or-none (some n) = cons none n nil
 
 unfoldable pub associated-conformance : Run Done
 associated-conformance = do
@@ -333,7 +332,7 @@ associated-conformance = do
   qualifier ← try K.is-protocol
   name ← pop-name
   p ← pop-if K.is-type
-  push (Record (bytes "associated conformance descriptor for ") (Identifier (dotted (print p) (path qualifier name) ++ (bytes ": " ++ print required))))
+  push (AssociatedConformance p (one-or-none qualifier) name required)
 
 -- line 961 to 964
 unfoldable pub optional-of : Node → Node
@@ -390,5 +389,5 @@ module _ (N : ℕ) where
 
 -- to name this on an `unfolding` line is to open every definition up to here
 unfoldable pub opened : ℕ
-unfolding opened₀ opened₁ opened₂ standard-nominal any-object generic-param leaf-node name-in pop-name context-in context protocol-in protocol assoc-type-name conformance function-params function-type try-signature under-signature label-in labels-from arity-of arity labels label-of elements members arguments requirements nominal tuple protocol-list bound-generic wrapped archetype subject requirement generic-signature plain-function accessed variable initializer about lazy-witness protocol-witness associated-type path associated-conformance optional-of copied optional substitutions perform
+unfolding opened₀ opened₁ opened₂ standard-nominal any-object generic-param leaf-node name-in pop-name context-in context protocol-in protocol assoc-type-name conformance function-params function-type try-signature under-signature label-in labels-from arity-of arity labels label-of elements members arguments requirements nominal tuple protocol-list bound-generic wrapped archetype subject requirement generic-signature plain-function accessed variable initializer about lazy-witness protocol-witness associated-type one-or-none associated-conformance optional-of copied optional substitutions perform
 opened = 0

@@ -11,7 +11,7 @@ use lib.ListN.{getElem?}
 use Rattle.definition.specs.Node.{opened as opened₀}
 use Rattle.definition.specs.Base.{Name, bytes, decimal, same, if_then_else_}
 use Rattle.definition.specs.Kind as K
-use Rattle.definition.specs.Node.{Labels, Node, Nodes, nil, cons, Identifier, Module, Nominal, GenericParam, DependentMember, Tuple, FunctionType, GenericType, GenericSignature, ConformanceRequirement, SameTypeRequirement, ProtocolList, Metatype, InOut, BoundGeneric, Function, Variable, Accessor, Initializer, Deinitializer, VariableInitializer, Static, Record, Conformance, ProtocolWitness, ValueWitness, EmptyList, FirstElementMarker, VariadicMarker, Throws, Async, kind}
+use Rattle.definition.specs.Node.{Labels, Node, Nodes, nil, cons, Identifier, Module, Nominal, GenericParam, DependentMember, Tuple, FunctionType, GenericType, GenericSignature, ConformanceRequirement, SameTypeRequirement, ProtocolList, Metatype, InOut, BoundGeneric, Function, Variable, Accessor, Initializer, Deinitializer, VariableInitializer, Static, Record, Conformance, ProtocolWitness, ValueWitness, EmptyList, FirstElementMarker, VariadicMarker, Throws, Async, LazyWitness, AssociatedConformance, kind}
 
 -- `join`: texts with a text between them
 unfoldable pub join : String → List Name → Name
@@ -85,6 +85,11 @@ deinitializer-name deallocating = if deallocating then bytes "__deallocating_dei
 unfoldable pub composition : List Name → Name
 composition [] = bytes "Any"
 composition (p ∷ ps) = join " & " (p ∷ ps)
+
+-- the path of an associated type: the protocol that says where it is from, if there is one, and its name (lines 1653 to 1656)
+unfoldable pub qualified : List Name → Name → Name
+qualified [] n = n
+qualified (q ∷ qs) n = dotted q n
 
 -- THE WAYS TO PRINT A NODE
 pub record Printed : Type 0 where
@@ -220,6 +225,9 @@ unfoldable mutual
   printing VariadicMarker = printed []
   printing Throws = printed []
   printing Async = printed []
+  printing (LazyWitness w t c) = printed (w ++ (printing t .text ++ (bytes " and conformance " ++ printing c .text)))
+  printing (AssociatedConformance p q n r) =
+      printed (bytes "associated conformance descriptor for " ++ (dotted (printing p .text) (qualified (texts (elements q)) n) ++ (bytes ": " ++ printing r .text)))
 
   pub elements : Nodes → List Element
   elements nil = []
@@ -235,5 +243,5 @@ print-params n ls = printing n .params ls
 
 -- to name this on an `unfolding` line is to open every definition up to here
 unfoldable pub opened : ℕ
-unfolding opened₀ join dotted param-letters generic-param-name param-names signature-text labelled label-at params-from in-parens texts effects initializer-name deinitializer-name composition printed print-tuple print-function-type print-generic-type print-nominal print-variable angled bound printing elements print print-params
+unfolding opened₀ join dotted param-letters generic-param-name param-names signature-text labelled label-at params-from in-parens texts effects initializer-name deinitializer-name composition qualified printed print-tuple print-function-type print-generic-type print-nominal print-variable angled bound printing elements print print-params
 opened = 0
