@@ -1,0 +1,4 @@
+pub mod Frame
+pub mod Stores
+pub mod Tops
+pub mod Places

@@ -1,0 +1,146 @@
+-- How the machine of trees lies in the workspace: records below 60 × N, the stack's places from there on, those of the remembered nodes
+-- from 61 × N on.
+use mathlib.Core.Path.{_≡_}
+use mathlib.Core.List.{List, [], _∷_, _++_}
+use Prim.Native.Nat.{ℕ, suc, _+_, _-_, _*_, _^_, _≤_, _<_}
+use Prim.Native.String.{String}
+use lib.ListN.{length, getD, drop}
+use Rattle.definition.specs.Base.{Name, bytes, ok}
+use Rattle.definition.specs.Text.{Text}
+use Rattle.definition.specs.Words as W
+use Rattle.definition.specs.Node.{Node, size}
+use Rattle.definition.specs.Machine.{machine, restack}
+use Rattle.definition.specs.Perform.{Demangler}
+use Rattle.definition.proofs.WordsAdded.{Begins}
+use Rattle.budget.specs.Spent.{budget-of}
+use Rattle.records.specs.Lies.{Would, Lies}
+use Rattle.records.specs.declared.State.{State}
+use Rattle.records.specs.declared.Popped.{Popped}
+use Rattle.records.specs.declared.Popped.the-variants as Popped
+
+-- where names come from: the text, the words known by now, the fixed names by number
+pub record Names : Type 0 where
+  pub text : Text
+  pub words : List Name
+  pub fixed : ℕ → String
+
+-- the number k stands for the name n: an identifier at that offset of the text, read when no more words were known than now; or, from
+-- 65,536 on, a fixed name
+pub data Named (nm : Names) (k : ℕ) (n : Name) : Type 0 where
+  spelled : (words : List Name) (r : W.Identified) (u : Text) → k < 65536 → W.identifier words (drop k (nm .text)) ≡ ok r u → Begins (r .words) (nm .words) → r .name ≡ n → Named nm k n
+  fixed : 65536 ≤ k → bytes (nm .fixed (k - 65536)) ≡ n → Named nm k n
+
+-- the sizes of trees together
+unfoldable pub weight : List Node → ℕ
+weight [] = 0
+weight (x ∷ xs) = size x + weight xs
+
+module _ (nm : Names) (w : List ℕ) (base top : ℕ) where
+  -- the trees at d places that stand from base on, the last pushed first; each place is below top
+  abbrev pub Stack : List Node → ℕ → Type 0
+  Stack [] d = d ≡ 0
+  Stack (x ∷ xs) d = (e : ℕ) × (d ≡ suc e) × (getD w (base + e) 0 < top) × Lies (Named nm) x w (getD w (base + e) 0) × Stack xs e
+
+  -- the trees at the places that stand from base + i to base + d, the oldest first
+  abbrev pub Queue : List Node → ℕ → ℕ → Type 0
+  Queue [] i d = i ≡ d
+  Queue (x ∷ xs) i d = (i < d) × (getD w (base + i) 0 < top) × Lies (Named nm) x w (getD w (base + i) 0) × Queue xs (suc i) d
+
+abbrev pub stack-base : ℕ → ℕ
+stack-base N = 60 * N
+
+abbrev pub seen-base : ℕ → ℕ
+seen-base N = 61 * N
+
+-- what may still be made: half records, pushes, nodes on the stack, remembered places
+pub record Spare : Type 0 where
+  pub makes : ℕ
+  pub pushes : ℕ
+  pub nodes : ℕ
+  pub keeps : ℕ
+
+-- the numbers alone: the workspace is long enough, and what lies in it is within what was charged, with so much to spare
+pub record Inside (w : List ℕ) (N : ℕ) (st : State) (makes pushes keeps : ℕ) : Type 0 where
+  pub small : N ≤ 65536
+  pub long : 64 * N ≤ length w
+  pub charged : st .budget .total ≤ N
+  pub room : 2 * st .top + 3 * st .depth + makes ≤ 15 * st .budget .total
+  pub deep : st .depth + pushes ≤ st .budget .total
+  pub kept : st .seen + keeps ≤ st .budget .total
+
+-- the machine m lies in w, with as much to spare
+pub record Holds (nm : Names) (w : List ℕ) (N : ℕ) (st : State) (sp : Spare) (m : Demangler) : Type 0 where
+  pub small : N ≤ 65536
+  pub long : 64 * N ≤ length w
+  pub charged : st .budget .total ≤ N
+  pub budget : budget-of (st .budget) ≡ m .budget
+  pub room : 2 * st .top + 3 * st .depth + sp .makes ≤ 15 * st .budget .total
+  pub deep : st .depth + sp .pushes ≤ st .budget .total
+  pub light : weight (m .stack) + sp .nodes ≤ 4 * st .budget .total
+  pub kept : st .seen + sp .keeps ≤ st .budget .total
+  pub stack : Stack nm w (stack-base N) (st .top) (m .stack) (st .depth)
+  pub substitutions : Queue nm w (seen-base N) (st .top) (m .substitutions) 0 (st .seen)
+  pub words : nm .words ≡ m .words
+
+-- some machine does
+pub record Ready (w : List ℕ) (N : ℕ) (st : State) (sp : Spare) : Type 0 where
+  pub names : Names
+  pub machine : Demangler
+  pub holds : Holds names w N st sp machine
+
+-- what may be spent on a record, on a push of a tree of size z, on a place that is remembered
+abbrev pub for-record : Spare → Spare
+for-record sp = record { makes = sp .makes + 2; pushes = sp .pushes; nodes = sp .nodes; keeps = sp .keeps }
+
+abbrev pub for-push : ℕ → Spare → Spare
+for-push z sp = record { makes = sp .makes + 3; pushes = sp .pushes + 1; nodes = sp .nodes + z; keeps = sp .keeps }
+
+abbrev pub for-keeping : Spare → Spare
+for-keeping sp = record { makes = sp .makes; pushes = sp .pushes; nodes = sp .nodes; keeps = sp .keeps + 1 }
+
+-- the tree at place p was the top of the machine m; the rest lies in w with u
+pub record TopIs (nm : Names) (w : List ℕ) (N : ℕ) (top p : ℕ) (u : State) (sp : Spare) (m : Demangler) : Type 0 where
+  pub tree : Node
+  pub rest : List Node
+  pub is : m .stack ≡ tree ∷ rest
+  pub below : p < top
+  pub lies : Lies (Named nm) tree w p
+  pub holds : Holds nm w N u (for-push (size tree) sp) (restack rest m)
+
+-- what a pop gives, whatever machine lay there
+pub record Took (w : List ℕ) (N : ℕ) (st : State) (p : ℕ) (u : State) : Type 0 where
+  pub deep : st .depth ≡ suc (u .depth)
+  pub top : u .top ≡ st .top
+  pub seen : u .seen ≡ st .seen
+  pub budget : u .budget ≡ st .budget
+  pub below : p < 2 ^ 32
+  pub gives : (nm : Names) (sp : Spare) (m : Demangler) → Holds nm w N st sp m → TopIs nm w N (st .top) p u sp m
+
+abbrev pub Pops : (w : List ℕ) (N : ℕ) (st : State) → Popped → Type 0
+Pops w N st (Popped.Place p u) = Took w N st p u
+Pops w N st Popped.Nothing = (nm : Names) (sp : Spare) (m : Demangler) → Holds nm w N st sp m → m .stack ≡ []
+
+-- trees below the place top survive, and so does everything past 64 × N
+pub record Keeps (w w′ : List ℕ) (N top : ℕ) : Type 0 where
+  pub trees : (nm : Names) (x : Node) (p : ℕ) → p < top → Lies (Named nm) x w p → Lies (Named nm) x w′ p
+  pub past : (i : ℕ) → 64 * N ≤ i → getD w′ i 0 ≡ getD w i 0
+  pub long : length w′ ≡ length w
+
+-- one record more, of these numbers
+pub record Grew (w w′ : List ℕ) (N : ℕ) (st u : State) (vs : List ℕ) : Type 0 where
+  pub state : u ≡ record { budget = st .budget; top = st .top + 1; depth = st .depth; seen = st .seen }
+  pub holds : (nm : Names) (sp : Spare) (m : Demangler) → Holds nm w N st (for-record sp) m → Holds nm w′ N u sp m
+  pub made : (nm : Names) (x : Node) → Would (Named nm) x (λ i. getD vs i 0) w (st .top) → Lies (Named nm) x w′ (st .top)
+  pub keeps : Keeps w w′ N (st .top)
+
+-- the place p was pushed
+pub record Pushed (w w′ : List ℕ) (N : ℕ) (st u : State) (p : ℕ) : Type 0 where
+  pub state : u ≡ record { budget = st .budget; top = st .top; depth = st .depth + 1; seen = st .seen }
+  pub holds : (nm : Names) (sp : Spare) (m : Demangler) (x : Node) → Holds nm w N st (for-push (size x) sp) m → p < st .top → Lies (Named nm) x w p → Holds nm w′ N u sp (restack (x ∷ m .stack) m)
+  pub keeps : Keeps w w′ N (st .top)
+
+-- the place p was remembered
+pub record Remembered (w w′ : List ℕ) (N : ℕ) (st u : State) (p : ℕ) : Type 0 where
+  pub state : u ≡ record { budget = st .budget; top = st .top; depth = st .depth; seen = st .seen + 1 }
+  pub holds : (nm : Names) (sp : Spare) (m : Demangler) (x : Node) → Holds nm w N st (for-keeping sp) m → p < st .top → Lies (Named nm) x w p → Holds nm w′ N u sp (machine (m .budget) (m .stack) (m .substitutions ++ (x ∷ [])) (m .words))
+  pub keeps : Keeps w w′ N (st .top)
