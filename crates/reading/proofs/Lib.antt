@@ -1,0 +1,5 @@
+pub mod ByKind
+pub mod Taking
+pub mod Contexts
+pub mod Leaving
+pub mod OneChilds
