@@ -1,0 +1,32 @@
+-- `operators::choose_row` meets its contract. Assumes nothing.
+use native.Mathlib.Nat.{le-refl}
+use lib.ListN.{drop}
+use Rattle.definition.specs.Enums.{number}
+use Rattle.operators.proofs.Choices.{operated-is, picked-is, found-at, found-nothing}
+use borrow.Author.Needs.{needs}
+use native.Mathlib.Omega.{arith}
+use Rattle.operators.proofs.choose_row.Statement.{statement}
+use Rattle.operators.proofs.choose_row.Tie as tie
+
+lookup-requires : tie.Need-lookup-requires
+lookup-requires c κs = search needs
+
+enum-known-n : tie.Need-enum-known-n
+enum-known-n c = search needs
+
+row-requires : tie.Need-row-requires
+row-requires c κs = let h = found-at (c .before .before .before .before .before .args .b) (c .before .before .before .before .before .args .start) (c .before .before .before .before .before .args .count) (c .before .n .given .1) (c .before .before .before .lookup .ensures) in (c .before .before .before .before .before .pre .0, omega arith)
+
+enum-told : tie.Need-enum-told
+enum-told c = search needs
+
+returns : tie.Need-returns
+returns c = operated-is (c .before .before .before .before .before .before .args .text .now) (picked-is (drop (c .before .before .before .before .before .before .args .c .at) (c .before .before .before .before .before .before .args .text .now)) (found-at (c .before .before .before .before .before .before .args .b) (c .before .before .before .before .before .before .args .start) (c .before .before .before .before .before .before .args .count) (c .before .before .n .given .1) (c .before .before .before .before .lookup .ensures) .is)) (le-refl _) (c .row .result) (c .row .ensures)
+
+returns-2 : tie.Need-returns-2
+unfolding number
+returns-2 c = picked-is (drop (c .before .before .before .before .args .c .at) (c .before .before .before .before .args .text .now)) (found-nothing (c .before .before .before .before .args .b) (c .before .before .before .before .args .start) (c .before .before .before .before .args .count) (c .enum-told .given .1) (c .before .before .lookup .ensures))
+
+pub choose-row-spec : {M : Type 1} → statement M
+choose-row-spec =
+    tie.close (tie.spec lookup-requires enum-known-n row-requires enum-told returns returns-2)

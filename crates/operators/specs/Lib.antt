@@ -1,0 +1,6 @@
+pub mod Fixed
+pub mod Letters
+pub mod Operands
+pub mod Tables
+pub mod Answers
+pub mod Chain
