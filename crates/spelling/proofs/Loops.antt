@@ -1,0 +1,210 @@
+-- The loops over the pieces of a name. Assumes nothing.
+use mathlib.Core.Path.{_≡_, refl, sym, ap, _∙_, subst, subst⁻¹}
+use mathlib.Core.Bool.{Bool, true, false, _&&_}
+use mathlib.Core.List.{List, [], _∷_, _++_}
+use Prim.Native.Nat.{ℕ, _+_, _-_, _*_, _≤_, _<_}
+use mathlib.Core.Logic.{_⊎_, inl, inr}
+use native.Mathlib.Omega.{arith}
+use native.Mathlib.Nat.{eq-or-lt-of-le}
+use borrow.Author.Tests.{eq-eqb, ne-eqb}
+use lib.Dec.{eqb}
+use lib.ListN.{length, take, drop, length-append, length-drop}
+use lib.Seq.{drop-drop}
+use Rattle.definition.specs.Base.{Name, same}
+use Rattle.definition.specs.Text.{Text}
+use Rattle.words.specs.Table.{part, table}
+use Rattle.words.specs.declared.Words.{Words}
+use Rattle.spelling.specs.Pieces.{Piece, piece, end, piece-of, lead, Follows, nothing, after}
+use Rattle.output.specs.Sink.{Room, Wrote, Rest, rest-start, rest-then, rest-end, rest-past}
+use Rattle.spelling.specs.Spelled.{Spells, LengthIs, Appended, Begun, Taken, PieceIs}
+use Rattle.spelling.specs.declared.Speller.{Speller}
+use Rattle.spelling.specs.declared.Piece.{Piece as Answer}
+use Rattle.spelling.specs.declared.Piece.the-variants as Answer
+use Rattle.words.proofs.Parts.{part-length}
+use Rattle.text.proofs.Steps.{front, ended, differ}
+use Rattle.spelling.proofs.Reading.{spelled-again}
+
+-- WHAT FOLLOWS A PIECE
+record Behind (words : List Name) (punycoded : Bool) (w : Name) (more : Bool) (t : Text) (n : Name) : Type 0 where
+  rest : Name
+  is : n ≡ w ++ rest
+  follows : Follows words punycoded (piece-of words more punycoded t) rest
+
+abbrev Parts : List Name → Bool → Piece → Name → Type 0
+Parts words punycoded (piece w more t) n = Behind words punycoded w more t n
+Parts words punycoded end n = n ≡ []
+
+parts : {words : List Name} {punycoded : Bool} {p : Piece} {n : Name} → Follows words punycoded p n → Parts words punycoded p n
+parts nothing = refl
+parts (after {n = n} h) = record { rest = n; is = refl; follows = h }
+
+-- what the answer says that a match took apart
+module _ (text : Text) (least : ℕ) (punycoded : Bool) {out : Piece} {r : Answer} where
+  pub taken-part : {from to : ℕ} {next : Speller} → r ≡ Answer.Part from to next → PieceIs out text least punycoded r → Taken out text least punycoded from to next
+  taken-part e h = subst (PieceIs out text least punycoded) e h
+
+  pub taken-end : r ≡ Answer.End → PieceIs out text least punycoded r → out ≡ end
+  taken-end e h = subst (PieceIs out text least punycoded) e h
+
+-- TWO TEXTS
+and-assoc : (a b c : Bool) → (a && (b && c)) ≡ ((a && b) && c)
+and-assoc true b c = refl
+and-assoc false b c = refl
+
+-- a text of two parts, compared part by part
+same-parts : (a n f : Name) → same (a ++ n) f ≡ (same a (take (length a) f) && same n (drop (length a) f))
+same-parts [] n f = refl
+same-parts (x ∷ a) n [] = refl
+same-parts (x ∷ a) n (y ∷ f) = ap (λ (b : Bool). eqb x y && b) (same-parts a n f) ∙ and-assoc (eqb x y) (same a (take (length a) f)) (same n (drop (length a) f))
+
+under : (a b : Bool) → (a && b) ≡ true → b ≡ true
+under true b e = e
+under false b e = absurd (differ (sym e))
+
+same-long : (a f : Name) → same a (take (length a) f) ≡ true → length a ≤ length f
+same-long [] f e = omega arith
+same-long (x ∷ a) [] e = absurd (differ (sym e))
+same-long (x ∷ a) (y ∷ f) e = let h : length a ≤ length f = same-long a f (under (eqb x y) (same a (take (length a) f)) e) in omega arith
+
+-- A LOOP
+module _ (text : Text) (w : Words) (p : ℕ) where
+  abbrev Remains : Speller → Name → Type 0
+  Remains s n = Follows (table text w) (s .punycoded) (piece-of (table text w) (s .more) (s .punycoded) (drop (s .at) text)) n
+
+  -- of the whole name this rest is left at the cursor, and Q holds of both
+  pub record Yet (Q : Name → Name → Type 0) (s : Speller) (name : Name) : Type 0 where
+    rest : Name
+    remains : Remains s rest
+    done : Q name rest
+
+  -- so it is, whatever name is spelled at p
+  abbrev pub Left : (Name → Name → Type 0) → Speller → Type 0
+  Left Q s = (name : Name) → Spells text w p name → Yet Q s name
+
+  pub left-first : {s : Speller} (Q : Name → Name → Type 0) → Begun text p s → ((name : Name) → Q name name) → Left Q s
+  left-first {s} Q b q name h = record {
+    rest = name;
+    remains = subst (Remains s) (h .named) (spelled-again (table text w) (h .words) (drop p text) (h .rest) (drop (s .at) text) (h .read) (lead (s .more) (s .punycoded)) (h .is) (h .later) (b .is));
+    done = q name;
+  }
+
+  module _ (s : Speller) where
+    abbrev here : Piece
+    here = piece-of (table text w) (s .more) (s .punycoded) (drop (s .at) text)
+
+    pub left-next : {least from to : ℕ} {next : Speller} {Q R : Name → Name → Type 0} → Taken here text least (s .punycoded) from to next → Left Q s →
+        ((name rest : Name) → Q name (part text from to ++ rest) → R name rest) → Left R next
+    left-next {from = from} {to = to} {next = next} {Q = Q} t l f name h =
+        let y = l name h in
+        let b = parts (subst (λ (x : Piece). Follows (table text w) (s .punycoded) x (y .rest)) (t .is) (y .remains)) in
+        record {
+          rest = b .rest;
+          remains = subst⁻¹ (λ (c : Bool). Follows (table text w) c (piece-of (table text w) (next .more) c (drop (next .at) text)) (b .rest)) (t .kept) (b .follows);
+          done = f name (b .rest) (subst (Q name) (b .is) (y .done));
+        }
+
+    pub left-end : {Q : Name → Name → Type 0} {R : Name → Type 0} → here ≡ end → Left Q s → ((name : Name) → Q name [] → R name) → (name : Name) → Spells text w p name → R name
+    left-end {Q = Q} e l f name h =
+        let y = l name h in
+        f name (subst (Q name) (parts (subst (λ (x : Piece). Follows (table text w) (s .punycoded) x (y .rest)) e (y .remains))) (y .done))
+
+    -- a piece at which the loop stops
+    pub left-stop : {least from to : ℕ} {next : Speller} {Q : Name → Name → Type 0} {R : Name → Type 0} → Taken here text least (s .punycoded) from to next → Left Q s →
+        ((name rest : Name) → Q name (part text from to ++ rest) → R name) → (name : Name) → Spells text w p name → R name
+    left-stop {next = next} {R = R} t l f name h = left-next {R = λ (x y : Name). R x} t l f name h .done
+
+  -- NAME_LENGTH
+  -- sum bytes of the name lie before the cursor
+  pub record Counting (s : Speller) (sum : ℕ) : Type 0 where
+    pub inside : s .at ≤ length text
+    pub small : sum ≤ 65535 * s .at
+    pub left : Left (λ name rest. length name ≡ sum + length rest) s
+
+  pub counting-first : {s : Speller} → Begun text p s → Counting s 0
+  counting-first {s} b = record { inside = b .inside; small = omega arith; left = left-first (λ name rest. length name ≡ 0 + length rest) b (λ name. omega arith) }
+
+  module _ (s : Speller) (sum : ℕ) (c : Counting s sum) (short : length text ≤ 65535) where
+    pub counting-next : {from to : ℕ} {next : Speller} → Taken (here s) text (s .at + 1) (s .punycoded) from to next → Counting next (sum + (to - from))
+    counting-next {from} {to} {next} t = record {
+      inside = t .within;
+      small = omega (arith, c .small, t .onward, t .inside);
+      left = left-next s {R = λ name rest. length name ≡ (sum + (to - from)) + length rest} t (c .left) (λ name rest e. e ∙ omega (arith, length-append (part text from to) rest, part-length text from to (t .inside)));
+    }
+
+    pub counting-end : here s ≡ end → LengthIs text w p sum
+    counting-end e = record { is = left-end s {R = λ name. sum ≡ length name} e (c .left) (λ name k. omega (arith, k)); small = omega (arith, c .small, c .inside) }
+
+  -- PUT_NAME
+  -- whoever appends the rest of the name at the cursor to o at r has appended the whole to o₀ at at₀
+  pub record Writing (room : ℕ) (o₀ : List ℕ) (at₀ : ℕ) (o : List ℕ) (s : Speller) (r : ℕ) : Type 0 where
+    pub inside : s .at ≤ length text
+    pub next : Room room o r
+    pub len : length o ≡ length o₀
+    pub left : Left (λ name rest. Rest room o₀ at₀ name o r rest) s
+
+  pub writing-first : {room at : ℕ} {o : List ℕ} {s : Speller} → Room room o at → Begun text p s → Writing room o at o s at
+  writing-first {room} {at} {o} h b = record { inside = b .inside; next = h; len = refl; left = left-first (λ name rest. Rest room o at name o at rest) b (λ name. rest-start h) }
+
+  module _ (room : ℕ) (o₀ : List ℕ) (at₀ : ℕ) (o : List ℕ) (s : Speller) (r : ℕ) (c : Writing room o₀ at₀ o s r) where
+    pub writing-next : {from to : ℕ} {next : Speller} {o' : List ℕ} {r' : ℕ} → Taken (here s) text (s .at + 1) (s .punycoded) from to next → Wrote room o o' r (part text from to) r' →
+        Writing room o₀ at₀ o' next r'
+    writing-next {o' = o'} {r' = r'} t v = record {
+      inside = t .within;
+      next = v .next;
+      len = v .len ∙ c .len;
+      left = left-next s {R = λ name rest. Rest room o₀ at₀ name o' r' rest} t (c .left) (λ name rest e. rest-then v e);
+    }
+
+    pub writing-past : room < r → Appended text w p room o₀ o at₀ r
+    writing-past k = record { is = λ name h. rest-past k (c .left name h .done); next = c .next; len = c .len }
+
+    pub writing-end : here s ≡ end → Appended text w p room o₀ o at₀ r
+    writing-end e = record { is = left-end s {R = λ name. Wrote room o₀ o at₀ name r} e (c .left) (λ name k. rest-end k); next = c .next; len = c .len }
+
+  -- NAME_IS
+  -- the name up to the cursor is fixed[..k]
+  module _ (fixed : Name) where
+    pub record Comparing (s : Speller) (k : ℕ) : Type 0 where
+      pub inside : s .at ≤ length text
+      pub fits : k ≤ length fixed
+      pub left : Left (λ name rest. same name fixed ≡ same rest (drop k fixed)) s
+
+    pub comparing-first : {s : Speller} → Begun text p s → Comparing s 0
+    comparing-first {s} b = record { inside = b .inside; fits = omega arith; left = left-first (λ name rest. same name fixed ≡ same rest (drop 0 fixed)) b (λ name. refl) }
+
+    module _ (s : Speller) (k : ℕ) (c : Comparing s k) where
+      module _ (from to : ℕ) (next : Speller) (t : Taken (here s) text (s .at + 1) (s .punycoded) from to next) where
+        abbrev a : Name
+        a = part text from to
+
+        -- the piece, and what stands at its place
+        abbrev pub Agree : Bool → Type 0
+        Agree b = b ≡ same a (take (length a) (drop k fixed))
+
+        piece-first : (b : Bool) → Agree b → (name rest : Name) → same name fixed ≡ same (a ++ rest) (drop k fixed) → same name fixed ≡ (b && same rest (drop (k + (to - from)) fixed))
+        piece-first b g name rest e =
+            let l : length a ≡ to - from = part-length text from to (t .inside) in
+            e ∙ same-parts a rest (drop k fixed) ∙ ap (λ (x : Bool). x && same rest (drop (length a) (drop k fixed))) (sym g)
+            ∙ ap (λ (x : Name). b && same rest x) (drop-drop (length a) k fixed ∙ ap (λ (m : ℕ). drop (k + m) fixed) l)
+
+        pub comparing-fits : {b : Bool} → Agree b → b ≡ true → k + (to - from) ≤ length fixed
+        comparing-fits g e =
+            let h : length a ≤ length (drop k fixed) = same-long a (drop k fixed) (sym g ∙ e) in
+            omega (arith, h, part-length text from to (t .inside), length-drop k fixed, c .fits)
+
+        pub comparing-next : {b : Bool} → Agree b → b ≡ true → Comparing next (k + (to - from))
+        comparing-next {b} g e = record {
+          inside = t .within;
+          fits = comparing-fits g e;
+          left = left-next s {R = λ name rest. same name fixed ≡ same rest (drop (k + (to - from)) fixed)} t (c .left) (λ name rest h. piece-first true (sym e ∙ g) name rest h);
+        }
+
+        pub comparing-differs : {b : Bool} → Agree b → b ≡ false → (name : Name) → Spells text w p name → false ≡ same name fixed
+        comparing-differs g e = left-stop s {R = λ name. false ≡ same name fixed} t (c .left) (λ name rest h. sym (piece-first false (sym e ∙ g) name rest h))
+
+      ended-here : (k ≡ length fixed) ⊎ (k < length fixed) → eqb k (length fixed) ≡ same [] (drop k fixed)
+      ended-here (inl e) = eq-eqb k (length fixed) e ∙ ap (same []) (sym (ended fixed k (omega arith)))
+      ended-here (inr l) = ne-eqb k (length fixed) (λ (e : k ≡ length fixed). omega arith) ∙ ap (same []) (sym (front fixed k l))
+
+      pub comparing-end : here s ≡ end → (name : Name) → Spells text w p name → eqb k (length fixed) ≡ same name fixed
+      comparing-end e = left-end s {R = λ name. eqb k (length fixed) ≡ same name fixed} e (c .left) (λ name h. ended-here (eq-or-lt-of-le (c .fits)) ∙ sym h)

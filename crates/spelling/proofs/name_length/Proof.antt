@@ -1,0 +1,74 @@
+-- `spelling::name_length` meets its contract. Assumes nothing.
+use Prim.Native.Nat.{_+_, _-_}
+use native.Mathlib.Omega.{arith}
+use lib.ListN.{length, drop}
+use borrow.Author.Needs.{needs}
+use Rattle.words.specs.Table.{table}
+use Rattle.spelling.specs.Pieces.{piece-of}
+use Rattle.spelling.specs.Spelled.{Taken}
+use Rattle.spelling.proofs.Loops.{taken-part, taken-end, Counting, counting-first, counting-next, counting-end}
+use Rattle.spelling.proofs.name_length.Statement.{statement}
+use Rattle.spelling.proofs.name_length.Tie as tie
+
+abbrev Inv-loop : tie.InvT-loop
+Inv-loop text p w s₀ sum₀ s sum = Counting text w p s sum
+
+abbrev μ-loop : tie.MeasureT-loop
+μ-loop text p w s₀ sum₀ s sum = length text - s .at
+
+-- the piece that the match took apart
+taken : (c : tie.After-from Inv-loop μ-loop) → Taken (piece-of (table (c .before .before .before .before .before .before .args .text .now) (c .before .before .before .before .before .before .args .w)) (c .before .before .before .loop .s .more) (c .before .before .before .loop .s .punycoded) (drop (c .before .before .before .loop .s .at) (c .before .before .before .before .before .before .args .text .now))) (c .before .before .before .before .before .before .args .text .now) (c .before .before .before .loop .s .at + 1) (c .before .before .before .loop .s .punycoded) (c .from .given .0 .0) (c .from .given .0 .1 .0) (c .from .given .0 .1 .1 .0)
+taken c = taken-part (c .before .before .before .before .before .before .args .text .now) (c .before .before .before .loop .s .at + 1) (c .before .before .before .loop .s .punycoded) (c .from .given .1) (c .before .before .next-piece .ensures)
+
+first-requires : tie.Need-first-requires Inv-loop μ-loop
+first-requires c κs = search needs
+
+loop-holds : tie.Need-loop-holds Inv-loop μ-loop
+loop-holds c = counting-first (c .before .before .args .text .now) (c .before .before .args .w) (c .before .before .args .p) (c .first .ensures)
+
+next-piece-requires : tie.Need-next-piece-requires Inv-loop μ-loop
+next-piece-requires c κs = (c .loop .inv .inside, c .before .before .before .pre .1 .1)
+
+enum-known-from : tie.Need-enum-known-from Inv-loop μ-loop
+enum-known-from c = search needs
+
+sub-sum : tie.Need-sub-sum Inv-loop μ-loop
+sub-sum c = let t = taken (c .before) in omega (arith, t .order)
+
+add-sum : tie.Need-add-sum Inv-loop μ-loop
+add-sum c =
+    let t = taken (c .before) in
+    omega (arith, t .inside, t .order, c .before .before .before .before .loop .inv .small, c .before .before .before .before .loop .inv .inside, c .before .before .before .before .before .before .before .pre .1 .0)
+
+loop-less : tie.Need-loop-less Inv-loop μ-loop
+loop-less c =
+    let t = taken (c .before) in
+    omega (arith, t .onward, t .within)
+
+loop-again : tie.Need-loop-again Inv-loop μ-loop
+loop-again c = counting-next (c .before .before .before .before .before .before .before .args .text .now) (c .before .before .before .before .before .before .before .args .w) (c .before .before .before .before .before .before .before .args .p) (c .before .before .before .before .loop .s) (c .before .before .before .before .loop .sum) (c .before .before .before .before .loop .inv) (c .before .before .before .before .before .before .before .pre .1 .0) (taken (c .before))
+
+enum-told : tie.Need-enum-told Inv-loop μ-loop
+enum-told c = search needs
+
+returns : tie.Need-returns Inv-loop μ-loop
+returns c =
+    counting-end (c .before .before .before .before .before .before .args .text .now) (c .before .before .before .before .before .before .args .w) (c .before .before .before .before .before .before .args .p) (c .before .before .before .loop .s) (c .before .before .before .loop .sum) (c .before .before .before .loop .inv) (c .before .before .before .before .before .before .pre .1 .0)
+    (taken-end (c .before .before .before .before .before .before .args .text .now) (c .before .before .before .loop .s .at + 1) (c .before .before .before .loop .s .punycoded) (c .enum-told .given .1) (c .before .before .next-piece .ensures))
+
+pub name-length-spec : {M : Type 1} → statement M
+name-length-spec =
+    tie.close
+    (tie.spec
+    Inv-loop
+    μ-loop
+    first-requires
+    loop-holds
+    next-piece-requires
+    enum-known-from
+    sub-sum
+    add-sum
+    loop-less
+    loop-again
+    enum-told
+    returns)

@@ -1,0 +1,110 @@
+-- `spelling::next_piece` meets its contract. Assumes nothing.
+use mathlib.Core.Path.{_≡_, sym, ap, _∙_}
+use mathlib.Core.Bool.{Bool, true, false}
+use mathlib.Core.Logic.{⊎-elim}
+use Prim.Native.Nat.{_+_, _≤_}
+use native.Mathlib.Omega.{arith}
+use native.Mathlib.Nat.{le-refl}
+use lib.ListN.{length, getD, drop}
+use borrow.Author.Needs.{needs}
+use Rattle.definition.specs.Base.{lower, upper}
+use Rattle.words.specs.Table.{table}
+use Rattle.spelling.specs.Pieces.{literal-piece, piece-of}
+use Rattle.spelling.proofs.Steps.{piece-is, piece-small, piece-capital, piece-other, piece-past, piece-plain, small-low, small-high, capital-low, capital-high}
+use Rattle.spelling.proofs.next_piece.Statement.{statement}
+use Rattle.spelling.proofs.next_piece.Tie as tie
+
+small : (c : tie.Then3) → lower (getD (c .before .before .before .before .before .before .args .text .now) (c .before .before .before .before .before .before .args .s .at) 0) ≡ true
+small c = sym (c .before .is-lower .ensures) ∙ c .if3 .taken
+
+capital : (c : tie.Then4) → upper (getD (c .before .before .before .before .before .before .before .before .args .text .now) (c .before .before .before .before .before .before .before .before .args .s .at) 0) ≡ true
+capital c = sym (c .before .is-upper .ensures) ∙ c .if4 .taken
+
+shared-slice-read-b : tie.Need-shared-slice-read-b
+shared-slice-read-b c = search needs
+
+is-lower-requires : tie.Need-is-lower-requires
+is-lower-requires c κs = search needs
+
+sub-word : tie.Need-sub-word
+sub-word c = let h : 97 ≤ getD (c .before .before .before .before .before .before .args .text .now) (c .before .before .before .before .before .before .args .s .at) 0 = small-low _ (small c) in omega arith
+
+cast-word : tie.Need-cast-word
+cast-word c = let h : getD (c .before .before .before .before .before .before .args .text .now) (c .before .before .before .before .before .before .args .s .at) 0 ≤ 122 = small-high _ (small c) in omega arith
+
+add-t16 : tie.Need-add-t16
+add-t16 c = search needs
+
+word-requires : tie.Need-word-requires
+word-requires c κs = search needs
+
+returns : tie.Need-returns
+returns c =
+    let words = table (c .before .before .before .before .before .before .before .args .text .now) (c .before .before .before .before .before .before .before .args .w) in
+    let l : c .before .before .before .before .before .before .before .args .s .at + 1 ≤ length (c .before .before .before .before .before .before .before .args .text .now) = omega (arith, c .before .before .before .before .if2 .taken) in
+    piece-is (c .before .before .before .before .before .before .before .args .text .now) (c .before .before .before .before .before .before .before .args .s .punycoded)
+    (ap (λ (b : Bool). piece-of words b (c .before .before .before .before .before .before .before .args .s .punycoded) (drop (c .before .before .before .before .before .before .before .args .s .at) (c .before .before .before .before .before .before .before .args .text .now))) (c .before .before .before .before .before .if1 .taken)
+    ∙ piece-small words (c .before .before .before .before .before .before .before .args .s .punycoded) (c .before .before .before .before .before .before .before .args .text .now) (c .before .before .before .before .before .before .before .args .s .at) (c .before .before .before .before .if2 .taken) (small (c .before)))
+    (le-refl _) (c .word .result) (c .word .ensures (c .before .before .before .before .before .before .before .args .text .now) (c .before .before .before .before .before .before .before .pre .1) l)
+
+is-upper-requires : tie.Need-is-upper-requires
+is-upper-requires c κs = search needs
+
+sub-word-2 : tie.Need-sub-word-2
+sub-word-2 c = let h : 65 ≤ getD (c .before .before .before .before .before .before .before .before .args .text .now) (c .before .before .before .before .before .before .before .before .args .s .at) 0 = capital-low _ (capital c) in omega arith
+
+cast-word-2 : tie.Need-cast-word-2
+cast-word-2 c = let h : getD (c .before .before .before .before .before .before .before .before .args .text .now) (c .before .before .before .before .before .before .before .before .args .s .at) 0 ≤ 90 = capital-high _ (capital c) in omega arith
+
+add-t21 : tie.Need-add-t21
+add-t21 c = search needs
+
+word-requires-2 : tie.Need-word-requires-2
+word-requires-2 c κs = search needs
+
+returns-2 : tie.Need-returns-2
+returns-2 c =
+    let words = table (c .before .before .before .before .before .before .before .before .before .args .text .now) (c .before .before .before .before .before .before .before .before .before .args .w) in
+    let l : c .before .before .before .before .before .before .before .before .before .args .s .at + 1 ≤ length (c .before .before .before .before .before .before .before .before .before .args .text .now) = omega (arith, c .before .before .before .before .before .before .if2 .taken) in
+    piece-is (c .before .before .before .before .before .before .before .before .before .args .text .now) (c .before .before .before .before .before .before .before .before .before .args .s .punycoded)
+    (ap (λ (b : Bool). piece-of words b (c .before .before .before .before .before .before .before .before .before .args .s .punycoded) (drop (c .before .before .before .before .before .before .before .before .before .args .s .at) (c .before .before .before .before .before .before .before .before .before .args .text .now))) (c .before .before .before .before .before .before .before .if1 .taken)
+    ∙ piece-capital words (c .before .before .before .before .before .before .before .before .before .args .s .punycoded) (c .before .before .before .before .before .before .before .before .before .args .text .now) (c .before .before .before .before .before .before .before .before .before .args .s .at) (c .before .before .before .before .before .before .if2 .taken) (sym (c .before .before .before .before .is-lower .ensures) ∙ c .before .before .before .if3 .left) (capital (c .before)))
+    (le-refl _) (c .word2 .result) (c .word2 .ensures (c .before .before .before .before .before .before .before .before .before .args .text .now) (c .before .before .before .before .before .before .before .before .before .pre .1) l)
+
+literal-requires : tie.Need-literal-requires
+literal-requires c κs = search needs
+
+returns-3 : tie.Need-returns-3
+returns-3 c =
+    let words = table (c .before .before .before .args .text .now) (c .before .before .before .args .w) in
+    let text = c .before .before .before .args .text .now in
+    let at = c .before .before .before .args .s .at in
+    let p = c .before .before .before .args .s .punycoded in
+    let by : (b : Bool) → c .before .before .before .args .s .more ≡ b → piece-of words b p (drop at text) ≡ literal-piece b p (drop at text) → piece-of words (c .before .before .before .args .s .more) p (drop at text) ≡ literal-piece (c .before .before .before .args .s .more) p (drop at text) =
+    λ b e k. ap (λ (b : Bool). piece-of words b p (drop at text)) e ∙ k ∙ ap (λ (b : Bool). literal-piece b p (drop at text)) (sym e) in
+    piece-is text p
+    (⊎-elim
+    (λ w. by true (w .0 .taken) (piece-other words p text at (w .1 .taken) (sym (w .3 .ensures) ∙ w .4 .left) (sym (w .5 .ensures) ∙ w .6 .left)))
+    (⊎-elim (λ w. by true (w .0 .taken) (piece-past words p text at (w .1 .left))) (λ w. by false (w .left) (piece-plain words p text at)))
+    (c .before .if1 .came))
+    (le-refl _) (c .literal .result) (c .literal .ensures)
+
+pub next-piece-spec : {M : Type 1} → statement M
+next-piece-spec =
+    tie.close
+    (tie.spec
+    shared-slice-read-b
+    is-lower-requires
+    sub-word
+    cast-word
+    add-t16
+    word-requires
+    returns
+    is-upper-requires
+    sub-word-2
+    cast-word-2
+    add-t21
+    word-requires-2
+    returns-2
+    literal-requires
+    returns-3)
