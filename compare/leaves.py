@@ -5,6 +5,7 @@ Run from the repository's root. UTF-8 is judged by Python's own decoder; numbers
 written from document 01.
 """
 LIMIT = 1 << 64
+BUFFER = 4096  # what the program spells a name into; a longer name is measured only
 
 
 class Refused(Exception):
@@ -129,18 +130,24 @@ def identifier(t, at, words):
     return name, at
 
 
-def identifiers(t):
-    """Identifiers one after another: the place behind each, the words then known, and its name."""
-    words, at, out = [], 0, []
+def identifiers(t, show):
+    """Identifiers one after another: what `show` makes of the place behind each, the words then known and its name."""
+    words, at, out = [], 0, b""
     while at < len(t):
         try:
-            start = at
             name, at = identifier(t, at, words)
         except Refused:
-            out.append(b"!9")
-            break
-        out.append(b"%d %d" % (at, len(words)))
-    return b" ".join(out)
+            return out + b"!9"
+        out += show(at, len(words), name)
+    return out
+
+
+def place(at, count, name):
+    return b"%d %d " % (at, count)
+
+
+def spelled(at, count, name):
+    return b"%d[%s]" % (len(name), name if len(name) <= BUFFER else b"")
 
 
 def answer(c, t):
@@ -158,7 +165,9 @@ def answer(c, t):
         if c == "s":
             return split(t).encode()
         if c in "wc":
-            return identifiers(t)
+            return identifiers(t, place)
+        if c == "p":
+            return identifiers(t, spelled)
     except Refused:
         return b"!9"
     return b"?"
@@ -209,12 +218,15 @@ def words():
         for n in range(1, len(b) + 2):
             yield b"%d" % n + b + b"0a0"
     yield b"2000" + b"aB" * 1000 + b"0az0"
-    yield b"900" + b"q" * 900 + b"0" + b"a" * 20 + b"A0"
+    for n in (3, 4, 5, 20):
+        yield b"900" + b"q" * 900 + b"0" + b"a" * n + b"A0"
+    yield b"1024" + b"q" * 1024 + b"0aaaA0"
+    yield b"1024" + b"q" * 1024 + b"0aaaA1x"
 
 
 CASES = ([("n", t) for t in NUMBERS] + [("i", t) for t in NUMBERS] + [("j", t) for t in NUMBERS] + [("g", t) for t in NUMBERS + PARAMS]
          + [("u", t) for t in utf8()] + [("s", t) for t in SYMBOLS])
-CASES += [(c, t) for c in "wc" for t in words()]
+CASES += [(c, t) for c in "wcp" for t in words()]
 CASES = [(c, t) for c, t in CASES if b"\n" not in t]
 
 with open("crates/leaves/stdin", "wb") as f:

@@ -1,0 +1,238 @@
+ghost use Prim.Native.Nat.{_≤_};
+ghost use lib.ListN.{length};
+ghost use Rattle.words.specs.Table.{Fitting};
+// Runs the readers of bytes on the lines of standard input. A line is a letter, which says the reader, and the text that it is
+// given; what it answers is a line of standard output: the values and the next place, or `!` and the number of the refusal.
+use definition::Refusal;
+use text::Cursor;
+use text::IllFormed;
+use text::Number;
+use text::ParamRead;
+use text::Symbol;
+use words::CountRead;
+use words::NameRead;
+use words::Words;
+
+fn put(n: usize) {
+    io::print_decimal(1, n as u64);
+}
+
+fn space() {
+    io::write_all(1, b" ");
+}
+
+fn number(f: Refusal) -> usize {
+    match f {
+        Refusal::Ceiling => 1,
+        Refusal::Workspace => 2,
+        Refusal::Length => 3,
+        Refusal::Encoding => 4,
+        Refusal::Prefix => 5,
+        Refusal::Steps => 6,
+        Refusal::Charge => 7,
+        Refusal::Nesting => 8,
+        Refusal::Spelling => 9,
+        Refusal::Stack => 10,
+        Refusal::Leftover => 11,
+        Refusal::Output => 12,
+    }
+}
+
+fn refused(f: Refusal) {
+    io::write_all(1, b"!");
+    put(number(f));
+}
+
+fn show_number(r: Number) {
+    match r {
+        Number::Read(n, c) => {
+            put(n);
+            space();
+            put(c.at);
+        }
+        Number::Refused(f) => refused(f),
+    }
+}
+
+fn show_param(r: ParamRead) {
+    match r {
+        ParamRead::Read(p, c) => {
+            put(p.depth);
+            space();
+            put(p.index);
+            space();
+            put(c.at);
+        }
+        ParamRead::Refused(f) => refused(f),
+    }
+}
+
+fn show_ill_formed(r: IllFormed) {
+    match r {
+        IllFormed::At(i) => put(i),
+        IllFormed::Nowhere => {
+            io::write_all(1, b"well-formed");
+        }
+    }
+}
+
+fn show_symbol(r: Symbol) {
+    match r {
+        Symbol::Parts { start, end } => {
+            put(start);
+            space();
+            put(end);
+        }
+        Symbol::Not => {
+            io::write_all(1, b"no symbol");
+        }
+    }
+}
+
+fn show_place(at: usize, count: usize) {
+    put(at);
+    space();
+    put(count);
+    space();
+}
+
+// Identifiers one after another: the place behind each, and how many words are then known.
+fn identifiers(text: &[u8], at: usize, w: Words)
+    requires { ⌜ (at ≤ length (now text)) × (length (now text) ≤ 65535) × Fitting (now text) w ⌝ }
+{
+    if text.len() <= at {
+        return;
+    }
+    let r = words::identifier(text, Cursor { at }, w);
+    let read = r.read;
+    let next = r.words;
+    match read {
+        NameRead::Read(c) => {
+            let place = c.at;
+            show_place(place, next.count);
+            identifiers(text, place, next);
+        }
+        NameRead::Refused(f) => refused(f),
+    }
+}
+
+// The same, with the words as a count.
+fn counted(text: &[u8], at: usize, count: usize)
+    requires { ⌜ (at ≤ length (now text)) × (length (now text) ≤ 65535) ⌝ }
+{
+    if text.len() <= at {
+        return;
+    }
+    match words::identifier_count(text, Cursor { at }, count) {
+        CountRead::Read(n, c) => {
+            let place = c.at;
+            show_place(place, n);
+            counted(text, place, n);
+        }
+        CountRead::Refused(f) => refused(f),
+    }
+}
+
+// The first n bytes, where there are so many.
+fn show_first(bytes: &[u8], n: usize) {
+    if n <= bytes.len() {
+        io::write_all(1, &bytes[0..n]);
+    }
+}
+
+// A name spelled again from its offset: its length, and its bytes in brackets.
+fn show_name(out: &mut [u8], text: &[u8], at: usize, w: Words)
+    requires { ⌜ (at ≤ length (now text)) × (length (now text) ≤ 65535) × Fitting (now text) w ⌝ }
+{
+    put(spelling::name_length(text, at, w));
+    let room = out.len();
+    let end = spelling::put_name(out, 0, room, text, at, w);
+    io::write_all(1, b"[");
+    show_first(out, end);
+    io::write_all(1, b"]");
+}
+
+// Names as they stand behind each identifier, spelled with the words then known.
+fn spelled(text: &[u8], at: usize, w: Words)
+    requires { ⌜ (at ≤ length (now text)) × (length (now text) ≤ 65535) × Fitting (now text) w ⌝ }
+{
+    if text.len() <= at {
+        return;
+    }
+    let r = words::identifier(text, Cursor { at }, w);
+    let read = r.read;
+    let next = r.words;
+    match read {
+        NameRead::Read(c) => {
+            let mut out = io::buffer();
+            show_name(&mut out, text, at, next);
+            spelled(text, c.at, next);
+        }
+        NameRead::Refused(f) => refused(f),
+    }
+}
+
+fn run_words(c: u8, text: &[u8]) {
+    if 65535 < text.len() {
+        return;
+    }
+    match c {
+        b'w' => identifiers(text, 0, Words::new()),
+        b'p' => spelled(text, 0, Words::new()),
+        _ => counted(text, 0, 0),
+    }
+}
+
+// One line: the letter c, and the text.
+fn run(c: u8, text: &[u8]) {
+    let from = Cursor { at: 0 };
+    match c {
+        b'n' => show_number(text::natural(text, from)),
+        b'i' => show_number(text::index(text, from)),
+        b'j' => show_number(text::index_plus_one(text, from)),
+        b'g' => show_param(text::generic_param_index(text, from)),
+        b'u' => show_ill_formed(text::ill_formed(text)),
+        b's' => show_symbol(text::split(text)),
+        b'w' | b'p' | b'c' => run_words(c, text),
+        _ => {
+            io::write_all(1, b"?");
+        }
+    }
+}
+
+fn run_line(line: &[u8]) {
+    if 0 < line.len() {
+        run(line[0], &line[1..]);
+    }
+    io::write_all(1, b"\n");
+}
+
+// The end of the line that begins at from.
+fn line_end(all: &[u8], from: usize) -> usize
+    requires { ⌜ from ≤ length (now all) ⌝ }
+    ensures { λ r. ⌜ (from ≤ r) × (r ≤ length (now (all .entry))) ⌝ }
+{
+    let mut at = from;
+    while at < all.len() {
+        if all[at] == b'\n' {
+            return at;
+        }
+        at += 1;
+    }
+    at
+}
+
+fn run_lines(all: &[u8]) {
+    let mut at = 0;
+    while at < all.len() {
+        let end = line_end(all, at);
+        run_line(&all[at..end]);
+        at = end + 1;
+    }
+}
+
+fn main() {
+    let mut buffer = io::large_buffer();
+    let n = io::read_full(0, &mut buffer);
+    run_lines(&buffer[..n]);
+}
