@@ -1,0 +1,5 @@
+pub mod Top
+pub mod Steps
+pub mod Composites
+pub mod Lists
+pub mod OneTake

@@ -1,0 +1,4 @@
+pub mod Lies
+pub mod Answers
+pub mod Takes
+pub mod Step

@@ -1,0 +1,48 @@
+-- How the check's machine lies in a workspace. Entry i stands in the three numbers from 3 × i on; the stack's entries begin at 0, the
+-- remembered ones at N.
+use mathlib.Core.Path.{_≡_}
+use mathlib.Core.Bool.{Bool, true, false}
+use mathlib.Core.List.{List, [], _∷_, _++_}
+use Prim.Native.Nat.{ℕ, zero, suc, _+_, _*_, _^_, _≤_, _<_}
+use lib.ListN.{length, getD}
+use Rattle.definition.specs.Kind as K
+use Rattle.definition.specs.Machine as M
+use Rattle.definition.specs.Shape as C
+use Rattle.definition.proofs.Room.{weigh, Sized}
+use Rattle.budget.specs.Spent.{budget-of}
+use Rattle.entries.specs.declared.Entry.{Entry}
+use Rattle.entries.specs.declared.State.{State}
+use Rattle.entries.specs.declared.Taken.{Taken}
+
+abbrev pub entry-of : Entry → K.Entry
+entry-of e = K.entry (e .kind) (e .size) (e .count)
+
+abbrev pub taken-of : Taken → C.Taken
+taken-of a = C.taken (a .size) (a .count) (a .signed)
+
+abbrev pub entry-at : List ℕ → ℕ → K.Entry
+entry-at w i = K.entry (getD w (3 * i) 0) (getD w (3 * i + 1) 0) (getD w (3 * i + 2) 0)
+
+-- d entries, the last pushed first
+unfoldable pub stack-of : List ℕ → ℕ → List K.Entry
+stack-of w zero = []
+stack-of w (suc d) = entry-at w d ∷ stack-of w d
+
+-- n entries from place N on, the oldest first
+unfoldable pub seen-of : List ℕ → (N : ℕ) → ℕ → List K.Entry
+seen-of w N zero = []
+seen-of w N (suc n) = seen-of w N n ++ (entry-at w (N + n) ∷ [])
+
+-- the machine that lies in the workspace w with the state st
+abbrev pub machine-of : List ℕ → (N : ℕ) → State → C.Shapes
+machine-of w N st = M.machine (budget-of (st .budget)) (stack-of w (st .depth)) (seen-of w N (st .seen)) (st .words)
+
+-- the sizes on the stack together
+abbrev pub load : List ℕ → State → ℕ
+load w st = weigh (stack-of w (st .depth))
+
+-- the stack lies in the workspace, each of its entries is one node at least, and they are not too many
+pub record Held (w : List ℕ) (st : State) : Type 0 where
+  pub inside : 3 * st .depth ≤ length w
+  pub sized : Sized (stack-of w (st .depth))
+  pub light : load w st ≤ 2 ^ 20

@@ -1,0 +1,6 @@
+pub mod Rows
+pub mod Indices
+pub mod RowTakes
+pub mod Stores
+pub mod Leaves
+pub mod Recalls

@@ -1,0 +1,195 @@
+-- The takes of a row, one after the other. Assumes nothing.
+use mathlib.Core.Path.{_≡_, refl, sym, ap, subst, _∙_}
+use mathlib.Core.Bool.{Bool, true, false, _&&_, _||_, not}
+use mathlib.Core.List.{List, [], _∷_}
+use Prim.Native.Nat.{ℕ, zero, suc, _+_, _*_, _-_, _^_, _≤_, _<_}
+use native.Mathlib.Omega.{arith}
+use native.Mathlib.Nat.{not-suc-le-zero}
+use native.Mathlib.Numerals.{add-one}
+use borrow.Author.Tests.{eq-eqb, ne-eqb, ltb-true, ltb-false, leb-true}
+use lib.Dec.{eqb, ltb, leb}
+use lib.ListN.{getD}
+use Rattle.definition.specs.Base.{Out, ok, refused, Done, and-then}
+use Rattle.definition.specs.Shape as C
+use Rattle.definition.specs.Shape.{Shapes, Check}
+use Rattle.definition.specs.Enums.{number}
+use Rattle.definition.specs.declared.Refusal.{Refusal}
+use Rattle.entries.specs.Lies.{machine-of, taken-of, load, Held}
+use Rattle.entries.specs.Answers.{Refuses}
+use Rattle.entries.specs.Step.{take-of, take-step, grows, resets, Ready, Goes, Takes}
+use Rattle.entries.proofs.Top.{held-less}
+use Rattle.entries.proofs.OneTake.{taking-step}
+use Rattle.entries.specs.declared.State.{State}
+use Rattle.entries.specs.declared.Taken.{Taken}
+use Rattle.entries.specs.declared.Take.{Take}
+use Rattle.entries.specs.declared.Taking.{Taking}
+use Rattle.entries.specs.declared.Taking.the-variants as Taking
+use Rattle.shape.specs.Table.{takes, decoded, code-at, unless-ended, takes-from, row-takes}
+use Rattle.shape.specs.Performs.{Light, RowWent, RowRefused}
+
+-- THE TABLE: a list is never counted on from an entry's count
+unfoldable pub any-grows : List C.Take → Bool
+any-grows [] = false
+any-grows (t ∷ ts) = grows t || any-grows ts
+
+abbrev unless-grown : Bool → Bool → Bool
+unless-grown true b = not b
+unless-grown false b = true
+
+unfoldable pub good : List C.Take → Bool
+good [] = true
+good (t ∷ ts) = unless-grown (resets t) (any-grows ts) && good ts
+
+good-below : ℕ → Bool
+good-below zero = true
+good-below (suc n) = good (row-takes n) && good-below n
+
+and-left : (a b : Bool) → (a && b) ≡ true → a ≡ true
+and-left true b e = refl
+and-left false b e = e
+
+and-right : (a b : Bool) → (a && b) ≡ true → b ≡ true
+and-right true b e = e
+and-right false b e = absurd (let z : _≡_ {A = ℕ} 0 1 = cc in omega arith)
+
+good-from : (n r : ℕ) → r < n → good-below n ≡ true → good (row-takes r) ≡ true
+unfolding good-below
+good-from zero r h e = absurd (not-suc-le-zero h)
+good-from (suc n) r h e = go (λ p. good-from n r p (and-right (good (row-takes n)) (good-below n) e)) (ltb r n) refl
+  where
+    go : (r < n → good (row-takes r) ≡ true) → (b : Bool) → ltb r n ≡ b → good (row-takes r) ≡ true
+    go f true q = f (ltb-true r n q)
+    go f false q = let p : n ≡ r = omega (arith, ltb-false r n q) in subst (λ (m : ℕ). good (row-takes m) ≡ true) p (and-left (good (row-takes n)) (good-below n) e)
+
+good-rows : (r : ℕ) → r < 60 → good (row-takes r) ≡ true
+unfolding good-below good any-grows takes-from code-at decoded
+good-rows r h = good-from 60 r h refl
+
+-- every code is one of a take
+all-le : List ℕ → Bool
+all-le [] = true
+all-le (x ∷ xs) = leb x 25 && all-le xs
+
+le-at : (xs : List ℕ) (i : ℕ) → all-le xs ≡ true → getD xs i 0 ≤ 25
+unfolding all-le
+le-at [] i e = omega arith
+le-at (x ∷ xs) zero e = leb-true x 25 (and-left (leb x 25) (all-le xs) e)
+le-at (x ∷ xs) (suc i) e = le-at xs i (and-right (leb x 25) (all-le xs) e)
+
+pub code-small : (i : ℕ) → code-at i ≤ 25
+unfolding code-at all-le
+code-small i = le-at takes i refl
+
+-- THE ROW UP TO HERE: what is left of it
+pub record Rowed (w : List ℕ) (st₀ : State) (row : ℕ) (st : State) (a : Taken) (j : ℕ) (rest : List C.Take) : Type 0 where
+  pub inside : j ≤ 10
+  pub is : (N : ℕ) (k : C.Taken → Check Done) → C.taking (row-takes row) (C.taken 0 0 false) k (machine-of w N st₀) ≡ C.taking rest (taken-of a) k (machine-of w N st)
+  pub depth : st .depth ≤ st₀ .depth
+  pub size : a .size + load w st ≤ load w st₀ + j
+  pub small : a .count < 2 ^ 32
+  pub few : any-grows rest ≡ true → a .count + st .depth < 2 ^ 32
+  pub sound : good rest ≡ true
+  pub seen : st .seen ≡ st₀ .seen
+  pub total : st .budget .total ≡ st₀ .budget .total
+
+or-left : (a b : Bool) → a ≡ true → (a || b) ≡ true
+or-left true b e = refl
+or-left false b e = absurd (let z : _≡_ {A = ℕ} 0 1 = cc in omega arith)
+
+or-right : (a b : Bool) → b ≡ true → (a || b) ≡ true
+or-right true b e = refl
+or-right false b e = e
+
+no-reset : (r g : Bool) → unless-grown r g ≡ true → g ≡ true → r ≡ false
+no-reset true true e q = absurd (let z : _≡_ {A = ℕ} 0 1 = cc in omega arith)
+no-reset true false e q = absurd (let z : _≡_ {A = ℕ} 0 1 = cc in omega arith)
+no-reset false g e q = refl
+
+pub row-start : (w : List ℕ) (st : State) (row : ℕ) (a : Taken) → row < 60 → Light w st → taken-of a ≡ C.taken 0 0 false → Rowed w st row st a 0 (row-takes row)
+row-start w st row a h l q =
+    let s : a .size ≡ 0 = ap (λ (t : C.Taken). t .size) q in
+    let n : a .count ≡ 0 = ap (λ (t : C.Taken). t .count) q in
+    record {
+      inside = omega arith;
+      is = λ N k. ap (λ (t : C.Taken). C.taking (row-takes row) t k (machine-of w N st)) (sym q);
+      depth = omega arith;
+      size = omega (arith, s);
+      small = omega (arith, n);
+      few = λ e. omega (arith, n, l .few);
+      sound = good-rows row h;
+      seen = refl;
+      total = refl;
+    }
+
+-- what is left, by the code
+module _ (row j : ℕ) (h : j < 10) where
+  unfolded : takes-from (10 * row + j) (10 - j) ≡ unless-ended (eqb (code-at (10 * row + j)) 0) (take-of (decoded (code-at (10 * row + j))) ∷ takes-from (10 * row + (j + 1)) (10 - (j + 1)))
+  unfolding takes-from
+  unfolded =
+      let p : 10 - j ≡ suc (10 - (j + 1)) = omega arith in
+      let q : suc (10 * row + j) ≡ 10 * row + (j + 1) = omega arith in
+      ap (takes-from (10 * row + j)) p ∙ ap (λ (i : ℕ). unless-ended (eqb (code-at (10 * row + j)) 0) (take-of (decoded (code-at (10 * row + j))) ∷ takes-from i (10 - (j + 1)))) q
+
+  pub rest-ended : code-at (10 * row + j) ≡ 0 → takes-from (10 * row + j) (10 - j) ≡ []
+  rest-ended e = unfolded ∙ ap (λ (b : Bool). unless-ended b (take-of (decoded (code-at (10 * row + j))) ∷ takes-from (10 * row + (j + 1)) (10 - (j + 1)))) (eq-eqb _ 0 e)
+
+  pub rest-more : (t : Take) → t ≡ decoded (code-at (10 * row + j)) → (code-at (10 * row + j) ≡ 0 → ⊥) → takes-from (10 * row + j) (10 - j) ≡ take-of t ∷ takes-from (10 * row + (j + 1)) (10 - (j + 1))
+  rest-more t p e =
+      unfolded ∙ (ap (λ (b : Bool). unless-ended b (take-of (decoded (code-at (10 * row + j))) ∷ takes-from (10 * row + (j + 1)) (10 - (j + 1)))) (ne-eqb _ 0 e)
+      ∙ ap (λ (x : Take). take-of x ∷ takes-from (10 * row + (j + 1)) (10 - (j + 1))) (sym p))
+
+pub rest-none : (row j : ℕ) → 10 ≤ j → takes-from (10 * row + j) (10 - j) ≡ []
+unfolding takes-from
+rest-none row j h = let p : 10 - j ≡ 0 = omega arith in ap (takes-from (10 * row + j)) p
+
+pub rest-all : (row : ℕ) → row-takes row ≡ takes-from (10 * row + 0) (10 - 0)
+rest-all row = let p : 10 * row ≡ 10 * row + 0 = omega arith in ap (λ (i : ℕ). takes-from i 10) p
+
+module _ {w : List ℕ} {st₀ st : State} {row : ℕ} {a : Taken} {j : ℕ} {rest : List C.Take} (r : Rowed w st₀ row st a j rest) where
+  pub row-ended : rest ≡ [] → RowWent w st₀ row a st
+  unfolding C.taking
+  row-ended e = record {
+    is = λ N k. r .is N k ∙ ap (λ (ts : List C.Take). C.taking ts (taken-of a) k (machine-of w N st)) e;
+    depth = r .depth;
+    size = omega (arith, r .size, r .inside);
+    small = r .small;
+    seen = r .seen;
+    total = r .total;
+  }
+
+  pub row-ready : (t : C.Take) {ts : List C.Take} → rest ≡ t ∷ ts → Light w st₀ → Ready (grows t) w st a
+  unfolding any-grows
+  row-ready t {ts} e l = record {
+    held = held-less st (l .held) (r .depth);
+    light = omega (arith, l .light, r .size, r .inside);
+    few = λ g. r .few (ap any-grows e ∙ or-left (grows t) (any-grows ts) g);
+  }
+
+  then-takes : (t : C.Take) (ts : List C.Take) → rest ≡ t ∷ ts → (N : ℕ) (k : C.Taken → Check Done) → C.taking (row-takes row) (C.taken 0 0 false) k (machine-of w N st₀) ≡ and-then (take-step t (taken-of a) (machine-of w N st)) (λ b. C.taking ts b k)
+  then-takes t ts e N k = r .is N k ∙ (ap (λ (xs : List C.Take). C.taking xs (taken-of a) k (machine-of w N st)) e ∙ taking-step t ts (taken-of a) k (machine-of w N st))
+
+  pub row-more : (t : C.Take) (ts : List C.Take) → rest ≡ t ∷ ts → j < 10 → {b : Taken} {u : State} → Goes (take-step t (taken-of a)) (resets t) w st a b u → Rowed w st₀ row u b (j + 1) ts
+  unfolding good any-grows
+  row-more t ts e h {b} {u} g =
+      let s : good (t ∷ ts) ≡ true = sym (ap good e) ∙ r .sound in
+      record {
+        inside = omega arith;
+        is = λ N k. then-takes t ts e N k ∙ ap (λ (o : Out Shapes C.Taken). and-then o (λ b. C.taking ts b k)) (g .is N);
+        depth = omega (arith, r .depth, g .depth);
+        size = omega (arith, r .size, g .size);
+        small = g .small (r .small);
+        few = λ q. omega (arith, g .count (no-reset (resets t) (any-grows ts) (and-left (unless-grown (resets t) (any-grows ts)) (good ts) s) q), r .few (ap any-grows e ∙ or-right (grows t) (any-grows ts) q));
+        sound = and-right (unless-grown (resets t) (any-grows ts)) (good ts) s;
+        seen = g .seen ∙ r .seen;
+        total = g .total ∙ r .total;
+      }
+
+  pub row-fails : (t : C.Take) (ts : List C.Take) → rest ≡ t ∷ ts → {x : Refusal} → Refuses (take-step t (taken-of a)) w st x → RowRefused w st₀ row x
+  row-fails t ts e g = record { is = λ N k. then-takes t ts e N k ∙ ap (λ (o : Out Shapes C.Taken). and-then o (λ b. C.taking ts b k)) (g .is N) }
+
+-- AFTER A MATCH
+pub takes-went : (t : C.Take) (w : List ℕ) (st : State) (a : Taken) {r : Taking} {b : Taken} {u : State} → r ≡ Taking.Went b u → Takes t w st a r → Goes (take-step t (taken-of a)) (resets t) w st a b u
+takes-went t w st a q h = subst (Takes t w st a) q h
+
+pub takes-refused : (t : C.Take) (w : List ℕ) (st : State) (a : Taken) {r : Taking} {x : Refusal} → r ≡ Taking.Refused x → Takes t w st a r → Refuses (take-step t (taken-of a)) w st x
+takes-refused t w st a q h = subst (Takes t w st a) q h

@@ -1,0 +1,128 @@
+-- What the answers over a workspace say of the definition's rows.
+use mathlib.Core.Path.{_≡_}
+use mathlib.Core.Bool.{Bool, true, false}
+use mathlib.Core.List.{List}
+use Prim.Native.Nat.{ℕ, _+_, _*_, _^_, _≤_, _<_}
+use lib.ListN.{length, getD}
+use Rattle.definition.specs.Base.{given, ok, refused, Done, _>>=_}
+use Rattle.definition.specs.Kind as K
+use Rattle.definition.specs.Machine as M
+use Rattle.definition.proofs.Room.{Fits}
+use Rattle.definition.specs.Shape as C
+use Rattle.definition.specs.Shape.{Check}
+use Prim.Native.String.{String}
+use Rattle.definition.specs.Enums as Enums
+use Rattle.definition.specs.Enums.{number}
+use Rattle.definition.specs.declared.Operator.{Operator}
+use Rattle.definition.specs.declared.Refusal.{Refusal}
+use Rattle.entries.specs.Lies.{machine-of, entry-of, entry-at, taken-of, load, Held}
+use Rattle.entries.specs.declared.Entry.{Entry}
+use Rattle.entries.specs.declared.State.{State}
+use Rattle.entries.specs.declared.Taken.{Taken}
+use Rattle.entries.specs.declared.Taking.{Taking}
+use Rattle.entries.specs.declared.Taking.the-variants as Taking
+use Rattle.shape.specs.declared.Step.{Step}
+use Rattle.shape.specs.declared.Step.the-variants as Step
+use Rattle.shape.specs.declared.Copies.{Copies}
+use Rattle.shape.specs.Table.{row-takes, row-leaves, copies-of}
+
+-- there is room to add up all that lies on the stack
+pub record Light (w : List ℕ) (st : State) : Type 0 where
+  pub held : Held w st
+  pub light : load w st + 10 ≤ 2 ^ 20
+  pub few : st .depth < 2 ^ 32
+
+-- the row's takes come to b and to the machine of u, whatever is done then
+pub record RowWent (w : List ℕ) (st : State) (row : ℕ) (b : Taken) (u : State) : Type 0 where
+  pub is : (N : ℕ) (k : C.Taken → Check Done) → C.taking (row-takes row) (C.taken 0 0 false) k (machine-of w N st) ≡ k (taken-of b) (machine-of w N u)
+  pub depth : u .depth ≤ st .depth
+  pub size : b .size + load w u ≤ load w st + 10
+  pub small : b .count < 2 ^ 32
+  pub seen : u .seen ≡ st .seen
+  pub total : u .budget .total ≡ st .budget .total
+
+pub record RowRefused (w : List ℕ) (st : State) (row : ℕ) (r : Refusal) : Type 0 where
+  pub is : (N : ℕ) (k : C.Taken → Check Done) → C.taking (row-takes row) (C.taken 0 0 false) k (machine-of w N st) ≡ refused (number r)
+
+abbrev pub RowTaking : List ℕ → State → ℕ → Taking → Type 0
+RowTaking w st row (Taking.Went b u) = RowWent w st row b u
+RowTaking w st row (Taking.Refused r) = RowRefused w st row r
+
+-- WRITING
+-- entry e was stored at place i of the workspace w
+pub record Stored (w w₁ : List ℕ) (i : ℕ) (e : Entry) : Type 0 where
+  pub long : length w₁ ≡ length w
+  pub there : entry-at w₁ i ≡ entry-of e
+  pub below : (k : ℕ) → k < 3 * i → getD w₁ k 0 ≡ getD w k 0
+  pub above : (k : ℕ) → 3 * i + 3 ≤ k → getD w₁ k 0 ≡ getD w k 0
+
+-- the workspace is as long as it was, and past its 8 × N numbers it is as it was
+pub record Outside (N : ℕ) (w w₁ : List ℕ) : Type 0 where
+  pub long : length w₁ ≡ length w
+  pub past : (k : ℕ) → 8 * N ≤ k → getD w₁ k 0 ≡ getD w k 0
+
+-- the step comes to the machine of u in the workspace w₁
+pub record Wrote (f : Check Done) (N : ℕ) (w w₁ : List ℕ) (st u : State) : Type 0 where
+  pub is : f (machine-of w N st) ≡ ok tt (machine-of w₁ N u)
+  pub outside : Outside N w w₁
+
+pub record Failed (f : Check Done) (N : ℕ) (w w₁ : List ℕ) (st : State) (r : Refusal) : Type 0 where
+  pub is : f (machine-of w N st) ≡ refused (number r)
+  pub outside : Outside N w w₁
+
+abbrev pub Performing : Check Done → (N : ℕ) → (w w₁ : List ℕ) → State → Step → Type 0
+Performing f N w w₁ st (Step.Done u) = Wrote f N w w₁ st u
+Performing f N w w₁ st (Step.Refused r) = Failed f N w w₁ st r
+
+-- one entry more is remembered, and the rest of the state is as it was
+pub record Remembered (f : Check Done) (N : ℕ) (w w₁ : List ℕ) (st u : State) : Type 0 where
+  pub wrote : Wrote f N w w₁ st u
+  pub depth : u .depth ≡ st .depth
+  pub budget : u .budget ≡ st .budget
+  pub seen : u .seen ≤ st .seen + 1
+
+-- the entry that a row leaves, however many there are of it
+pub record LeftBy (row : ℕ) (a : Taken) (e : Entry) : Type 0 where
+  pub is : (c : Copies) → entry-of e ≡ C.left (row-leaves row c) (taken-of a)
+  pub one : 1 ≤ e .size
+
+-- an entry is pushed, or so many copies of it
+abbrev pub put : (N : ℕ) → Copies → K.Entry → Check Done
+put N c e = given (copies-of c) (M.push e) (λ times. C.copied N times e)
+
+-- a remembered entry, and so many copies of it
+abbrev pub recall-copies : (N : ℕ) → (times index : ℕ) → Check Done
+recall-copies N times index = M.recall index >>= λ e. C.copied N times e
+
+-- there is room for another entry on the stack
+pub record Puts (N : ℕ) (w : List ℕ) (st : State) : Type 0 where
+  pub long : 8 * N ≤ length w
+  pub ceiling : N ≤ 65536
+  pub total : st .budget .total ≤ N
+  pub deep : st .depth + 1 ≤ st .budget .total
+
+-- the workspace holds a machine that fits its charged total, with the charge of this turn
+pub record Sound (N : ℕ) (w : List ℕ) (st : State) : Type 0 where
+  pub long : 8 * N ≤ length w
+  pub ceiling : N ≤ 65536
+  pub total : st .budget .total ≤ N
+  pub fits : Fits 1 (machine-of w N st)
+
+-- the same, where nothing is left of the charge
+pub record Settled (N : ℕ) (w : List ℕ) (st : State) : Type 0 where
+  pub long : 8 * N ≤ length w
+  pub ceiling : N ≤ 65536
+  pub total : st .budget .total ≤ N
+  pub fits : Fits 0 (machine-of w N st)
+
+-- there is room for another entry on the stack, and for another that is remembered
+pub record Roomy (N : ℕ) (w : List ℕ) (st : State) : Type 0 where
+  pub long : 8 * N ≤ length w
+  pub ceiling : N ≤ 65536
+  pub total : st .budget .total ≤ N
+  pub deep : st .depth + 1 ≤ st .budget .total
+  pub seen : st .seen + 1 ≤ st .budget .total
+
+-- the operator's row of the definition's table, whatever its fixed names are
+abbrev pub Performs : Operator → (N : ℕ) → (w w₁ : List ℕ) → State → Step → Type 0
+Performs op N w w₁ st r = (fixed : ℕ → String) → Performing (C.run-row N (C.row (Enums.operator fixed op))) N w w₁ st r
