@@ -429,3 +429,12 @@ pub print-qualified-conformance : (protocol qualifier : Node) (name : Name) (req
     bytes "associated conformance descriptor for " ++ (dotted (print protocol) (dotted (print qualifier) name) ++ (bytes ": " ++ print required))
 unfolding print printing printed elements texts qualified
 print-qualified-conformance protocol qualifier name required = refl
+
+-- A TYPE BEHIND A NAME
+-- lines 424 to 429 and 458 to 463: no function type
+pub behind-of-other : (n : Node) → T (not (eqb (kind n) K.function-type)) → (ls : Labels) → printing n .behind ls ≡ bytes " : " ++ print n
+behind-of-other n h ls = others n .in-function h ls
+
+-- lines 545 to 552: no signature to split off
+pub signed-of-other : (n : Node) → T (not (eqb (kind n) K.generic-type)) → (ls : Labels) → printing n .signed ls ≡ printing n .behind ls
+signed-of-other n h ls = others n .unsigned h ls

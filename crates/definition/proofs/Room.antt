@@ -7,6 +7,7 @@ use mathlib.Core.Option.{Option, some, none}
 use Prim.Native.Nat.{ℕ, zero, suc, _+_, _*_, _-_, _≤_, _<_}
 use native.Mathlib.Omega.{arith}
 use lib.Dec.{T, eqb, ltb, leb, leb→le}
+use borrow.Author.Tests.{leb-true}
 use native.Mathlib.Nat.{mul-zero, mul-suc, one-mul, le-trans, le-of-eq, mul-le-mul-right}
 use lib.ListN.{length, length-append, length-map, length-replicate, getElem?, replicate}
 use Rattle.definition.specs.Base.{Name, digit, if_then_else_, given, is-some, Out, ok, refused, Step, Done, ret, refuse, and-then, _>>=_, _>>_, Late, good, bad, judge}
@@ -435,22 +436,63 @@ module _ (N : ℕ) where
       go none = push-fits (C.left l a)
       go (some times) = record { at = λ s r. copied-fits N times (C.left l a) 0 (r .one) .at s (unpushed s r) }
 
+  -- a remembered entry, and so many copies of it
+  recall-fits : (j i : ℕ) → Holds (Fits j) (recall i) (λ e s. (1 ≤ e .size) × Fits j s)
+  unfolding recall
+  recall-fits j i = record { at = λ s f. go s f (s .substitutions) i (f .remembered) }
+    where
+      go : (s : Shapes) → Fits j s → (es : List Entry) (i : ℕ) → AllOf (Bounded (s .budget .total)) es → Result (λ e s. (1 ≤ e .size) × Fits j s) (given (getElem? es i) (refused 9) (λ n. ok n s))
+      go s f [] i b = tt
+      go s f (e ∷ es) zero b = (b .0 .0, f)
+      go s f (e ∷ es) (suc i) b = go s f es i (b .1)
+
+  recalled-copies-fit : (j times : ℕ) (e : Entry) → Holds (λ s. (1 ≤ e .size) × Fits j s) (C.copied N times e) (λ x s. Fits j s)
+  recalled-copies-fit j times e = record { at = λ s f. copied-fits N times e j (f .0) .at s (f .1) }
+
   recalled-fits : (cs : List Op.Copies) (letter : Late Done) (j : ℕ) → Holds (Fits j) (C.recalled N cs letter) (λ x s. Fits j s)
-  unfolding C.recalled recall
+  unfolding C.recalled
   recalled-fits [] (good x) j = returns x (λ s f. f)
   recalled-fits [] (bad r) j = refuses r
-  recalled-fits (c ∷ cs) letter j = bind _ (recall-fits (c .index)) λ e. bind _ (once e) λ _. recalled-fits cs letter j
-    where
-      once : (e : Entry) → Holds (λ s. (1 ≤ e .size) × Fits j s) (C.copied N (c .times) e) (λ x s. Fits j s)
-      once e = record { at = λ s f. copied-fits N (c .times) e j (f .0) .at s (f .1) }
+  recalled-fits (c ∷ cs) letter j = bind _ (recall-fits j (c .index)) λ e. bind _ (recalled-copies-fit j (c .times) e) λ _. recalled-fits cs letter j
 
-      recall-fits : (i : ℕ) → Holds (Fits j) (recall i) (λ e s. (1 ≤ e .size) × Fits j s)
-      recall-fits i = record { at = λ s f. go s f (s .substitutions) i (f .remembered) }
-        where
-          go : (s : Shapes) → Fits j s → (es : List Entry) (i : ℕ) → AllOf (Bounded (s .budget .total)) es → Result (λ e s. (1 ≤ e .size) × Fits j s) (given (getElem? es i) (refused 9) (λ n. ok n s))
-          go s f [] i b = tt
-          go s f (e ∷ es) zero b = (b .0 .0, f)
-          go s f (e ∷ es) (suc i) b = go s f es i (b .1)
+  -- WHAT IS CHARGED passes the ceiling never
+  abbrev Charged : Shapes → Type 0
+  Charged s = s .budget .total ≤ N
+
+  copied-charged : {P : Shapes → Type 0} (times : ℕ) (e : Entry) → Holds P (C.copied N times e) (λ x s. Charged s)
+  unfolding C.copied push-copies spend B.charge
+  copied-charged times e = record { at = λ s p. go s (leb (s .budget .total + e .size * times) N) refl }
+    where
+      go : (s : Shapes) (b : Bool) → leb (s .budget .total + e .size * times) N ≡ b →
+          Result {A = Done} (λ x s. Charged s) (and-then (spent (if b then ok tt (B.budget (s .budget .steps) (s .budget .total + e .size * times) (s .budget .wraps)) else refused 7) s) (λ x. push-copies times e))
+      go s true q = leb-true (s .budget .total + e .size * times) N q
+      go s false q = tt
+
+  recall-charged : (i : ℕ) → Holds Charged (recall i) (λ e s. Charged s)
+  unfolding recall
+  recall-charged i = record { at = λ s h. go s h (getElem? (s .substitutions) i) }
+    where
+      go : (s : Shapes) → Charged s → (o : Option Entry) → Result {A = Entry} (λ e s. Charged s) (given o (refused 9) (λ n. ok n s))
+      go s h none = tt
+      go s h (some e) = h
+
+  recalled-charged : (cs : List Op.Copies) (letter : Late Done) → Holds Charged (C.recalled N cs letter) (λ x s. Charged s)
+  unfolding C.recalled
+  recalled-charged [] (good x) = returns x (λ s h. h)
+  recalled-charged [] (bad r) = refuses r
+  recalled-charged (c ∷ cs) letter = bind _ (recall-charged (c .index)) λ e. bind _ (copied-charged (c .times) e) λ _. recalled-charged cs letter
+
+  leave-charged : (s₀ : Shapes) (n g : ℕ) (l : Leaves) (a : Taken) → Charged s₀ → Holds (Taking s₀ n g a) (C.leave N l a) (λ x s. Charged s)
+  unfolding C.leave remember push
+  leave-charged s₀ n g l a h = bind _ (kept (l .remembered)) λ _. go (l .copies)
+    where
+      kept : (b : Bool) → Holds (Taking s₀ n g a) (if b then remember (C.left l a) else ret tt) (λ x s. Charged s)
+      kept true = record { at = λ s t. omega (arith, t .charged, h) }
+      kept false = record { at = λ s t. omega (arith, t .charged, h) }
+
+      go : (c : Option ℕ) → Holds Charged (given c (push (C.left l a)) (λ times. C.copied N times (C.left l a))) (λ x s. Charged s)
+      go none = record { at = λ s k. k }
+      go (some times) = copied-charged times (C.left l a)
 
 -- THE TABLE: no row makes more than 4 nodes beside those that it takes
 row-makes-four : C.Row → Bool
@@ -523,6 +565,9 @@ rows-make-four Op.associated-type = tt
 rows-make-four Op.associated-conformance = tt
 
 -- TURNS
+nothing-taken : (s : Shapes) → Fits 1 s → Taking s 0 0 (taken 0 0 false) s
+nothing-taken s f = record { charged = refl; substitutions = refl; depth = le-of-eq refl; weight = omega arith; sized = f .sized }
+
 module _ (N : ℕ) where
   row-fits : (r : C.Row) → T (row-makes-four r) → Holds (Fits 1) (C.run-row N r) (λ x s. Fits 0 s)
   unfolding C.run-row row-makes-four
@@ -534,8 +579,14 @@ module _ (N : ℕ) where
     at = λ s₀ f.
         let g : T (leb 1 (l .own)) × T (leb (l .own + signatures ts) (4 + names ts)) = both (leb 1 (l .own)) (leb (l .own + signatures ts) (4 + names ts)) h in
         let p : l .own + (signatures ts + 0) ≤ 4 + (names ts + 0) = omega (arith, leb→le (l .own + signatures ts) (4 + names ts) (g .1)) in
-        taking-holds s₀ (λ x s. Fits 0 s) ts 0 0 (taken 0 0 false) (C.leave N l) (λ a. leave-fits N s₀ (names ts + 0) (signatures ts + 0) l a f (leb→le 1 (l .own) (g .0)) p) .at s₀
-        (record { charged = refl; substitutions = refl; depth = le-of-eq refl; weight = omega arith; sized = f .sized });
+        taking-holds s₀ (λ x s. Fits 0 s) ts 0 0 (taken 0 0 false) (C.leave N l) (λ a. leave-fits N s₀ (names ts + 0) (signatures ts + 0) l a f (leb→le 1 (l .own) (g .0)) p) .at s₀ (nothing-taken s₀ f);
+  }
+
+  row-charged : (r : C.Row) → Holds (λ s. Fits 1 s × Charged N s) (C.run-row N r) (λ x s. Charged N s)
+  unfolding C.run-row
+  row-charged (C.recalls cs letter) = before (λ s h. h .1) (recalled-charged N cs letter)
+  row-charged (C.rule ts l) = record {
+    at = λ s₀ h. taking-holds s₀ (λ x s. Charged N s) ts 0 0 (taken 0 0 false) (C.leave N l) (λ a. leave-charged N s₀ (names ts + 0) (signatures ts + 0) l a (h .1)) .at s₀ (nothing-taken s₀ (h .0));
   }
 
   name-fits : (words : ℕ) → Holds (Fits 1) (Ch.name N words) (λ x s. Fits 0 s)
@@ -586,22 +637,55 @@ module _ (N : ℕ) where
       }
       go s f false = tt
 
+  charge-charged : {P : Shapes → Type 0} (n : ℕ) → Holds P (spend (B.charge N n)) (λ x s. Charged N s)
+  unfolding spend B.charge
+  charge-charged n = record { at = λ s p. go s (leb (s .budget .total + n) N) refl }
+    where
+      go : (s : Shapes) (b : Bool) → leb (s .budget .total + n) N ≡ b → Result {A = Done} (λ x s. Charged N s) (spent (if b then ok tt (B.budget (s .budget .steps) (s .budget .total + n) (s .budget .wraps)) else refused 7) s)
+      go s true q = leb-true (s .budget .total + n) N q
+      go s false q = tt
+
   turn-fits : (t : Text) → Holds (Fits 0) (turn N (Ch.one N) t) (λ u s. Fits 0 s)
   unfolding turn
   turn-fits t = bind _ (step-fits 0) λ _. bind _ (charge-fits 0 1) λ _. one-fits t
 
-  kept : (P : Shapes → Type 0) {A : Type 0} (e : Check A) → Holds P e (λ x s. Fits 0 s) → (s s₁ : Shapes) (a : A) → P s → e s ≡ ok a s₁ → Fits 0 s₁
-  kept P e h s s₁ a p q = rw q at (h .at s p)
+  kept : (P R : Shapes → Type 0) {A : Type 0} (e : Check A) → Holds P e (λ x s. R s) → (s s₁ : Shapes) (a : A) → P s → e s ≡ ok a s₁ → R s₁
+  kept P R e h s s₁ a p q = rw q at (h .at s p)
 
-  -- one operator, given the charge of its turn; and one turn
+  -- the step and the charge as a turn begins
+  begun-fits : Holds (Fits 0) (spend B.step >> spend (B.charge N 1)) (λ x s. Fits 1 s)
+  begun-fits = bind _ (step-fits 0) λ _. charge-fits 0 1
+
+  begun-charged : Holds (Fits 0) (spend B.step >> spend (B.charge N 1)) (λ x s. Charged N s)
+  begun-charged = bind _ (step-fits 0) λ _. charge-charged 1
+
+  pub begin-keeps : (s s₁ : Shapes) → Fits 0 s → (spend B.step >> spend (B.charge N 1)) s ≡ ok tt s₁ → Fits 1 s₁
+  begin-keeps s s₁ f q = kept (Fits 0) (Fits 1) (spend B.step >> spend (B.charge N 1)) begun-fits s s₁ tt f q
+
+  pub begin-total : (s s₁ : Shapes) → Fits 0 s → (spend B.step >> spend (B.charge N 1)) s ≡ ok tt s₁ → s₁ .budget .total ≤ N
+  begin-total s s₁ f q = kept (Fits 0) (Charged N) (spend B.step >> spend (B.charge N 1)) begun-charged s s₁ tt f q
+
+  -- one operator, given the charge of its turn; copies of a remembered entry; and one turn
   pub row-keeps : (op : Op.Operator) (s s₁ : Shapes) → Fits 1 s → C.run-row N (C.row op) s ≡ ok tt s₁ → Fits 0 s₁
-  row-keeps op s s₁ f q = kept (Fits 1) (C.run-row N (C.row op)) (row-fits (C.row op) (rows-make-four op)) s s₁ tt f q
+  row-keeps op s s₁ f q = kept (Fits 1) (Fits 0) (C.run-row N (C.row op)) (row-fits (C.row op) (rows-make-four op)) s s₁ tt f q
 
   pub name-keeps : (words : ℕ) (s s₁ : Shapes) → Fits 1 s → Ch.name N words s ≡ ok tt s₁ → Fits 0 s₁
-  name-keeps words s s₁ f q = kept (Fits 1) (Ch.name N words) (name-fits words) s s₁ tt f q
+  name-keeps words s s₁ f q = kept (Fits 1) (Fits 0) (Ch.name N words) (name-fits words) s s₁ tt f q
+
+  pub recall-keeps : (times i : ℕ) (s s₁ : Shapes) → Fits 0 s → (recall i >>= λ e. C.copied N times e) s ≡ ok tt s₁ → Fits 0 s₁
+  recall-keeps times i s s₁ f q =
+      kept (Fits 0) (Fits 0) (recall i >>= λ e. C.copied N times e) (bind _ (recall-fits N 0 i) λ e. recalled-copies-fit N 0 times e) s s₁ tt f q
 
   pub turn-keeps : (t u : Text) (s s₁ : Shapes) → Fits 0 s → turn N (Ch.one N) t s ≡ ok u s₁ → Fits 0 s₁
-  turn-keeps t u s s₁ f q = kept (Fits 0) (turn N (Ch.one N) t) (turn-fits t) s s₁ u f q
+  turn-keeps t u s s₁ f q = kept (Fits 0) (Fits 0) (turn N (Ch.one N) t) (turn-fits t) s s₁ u f q
+
+  -- the charged total stays at the ceiling or below
+  pub row-total : (op : Op.Operator) (s s₁ : Shapes) → Fits 1 s → s .budget .total ≤ N → C.run-row N (C.row op) s ≡ ok tt s₁ → s₁ .budget .total ≤ N
+  row-total op s s₁ f h q = kept (λ s. Fits 1 s × Charged N s) (Charged N) (C.run-row N (C.row op)) (row-charged (C.row op)) s s₁ tt (f, h) q
+
+  pub recall-total : (times i : ℕ) (s s₁ : Shapes) → s .budget .total ≤ N → (recall i >>= λ e. C.copied N times e) s ≡ ok tt s₁ → s₁ .budget .total ≤ N
+  recall-total times i s s₁ h q =
+      kept (Charged N) (Charged N) (recall i >>= λ e. C.copied N times e) (bind _ (recall-charged N i) λ e. copied-charged N times e) s s₁ tt h q
 
   abbrev FitsEnd : End Shapes → Type 0
   FitsEnd (ran s) = Fits 0 s

@@ -50,12 +50,12 @@ before-end (s ∷ ss) (suc n) h =
     omega (arith, length-append (bytes s) (joined ss), length-append (bytes s) (joined (take n ss)))
 
 module _ (ss : List String) (n : ℕ) (h : n < length ss) where
-  part : take (getD (lengths ss) n 0) (drop (getD (starts 0 ss) n 0) (joined ss)) ≡ bytes (getD ss n "")
+  pub part : take (getD (lengths ss) n 0) (drop (getD (starts 0 ss) n 0) (joined ss)) ≡ bytes (getD ss n "")
   part =
       let z : 0 + length (joined (take n ss)) ≡ length (joined (take n ss)) = omega arith in
       rw (length-at ss n h, start-at ss 0 n h, z, from-start ss n h) (take-append-seam (bytes (getD ss n "")) (joined (drop (suc n) ss)))
 
-  inside : getD (starts 0 ss) n 0 + getD (lengths ss) n 0 ≤ length (joined ss)
+  pub inside : getD (starts 0 ss) n 0 + getD (lengths ss) n 0 ≤ length (joined ss)
   inside = let e = before-end ss n h in omega (arith, length-at ss n h, start-at ss 0 n h)
 
 -- of the fixed names
@@ -80,3 +80,24 @@ module _ (n : ℕ) (h : n < count) where
 pub unnamed : (n : ℕ) → count ≤ n → [] ≡ bytes (fixed n)
 unfolding opened₀ fixed fixed-names
 unnamed n h = ap bytes (sym (List·getD-eq-default fixed-names "" h))
+
+-- the names that operators of the machine use of themselves, by number
+pub fixed-swift : fixed 0 ≡ "Swift"
+unfolding fixed fixed-names
+fixed-swift = refl
+
+pub fixed-any-object : fixed 3 ≡ "AnyObject"
+unfolding fixed fixed-names
+fixed-any-object = refl
+
+pub fixed-optional : fixed 28 ≡ "Optional"
+unfolding fixed fixed-names
+fixed-optional = refl
+
+pub fixed-associated-type : fixed 133 ≡ "associated type descriptor for "
+unfolding fixed fixed-names
+fixed-associated-type = refl
+
+pub fixed-past : (n : ℕ) → 134 ≤ n → fixed n ≡ ""
+unfolding fixed fixed-names
+fixed-past n h = List·getD-eq-default fixed-names "" h

@@ -153,10 +153,12 @@ fixed-names =
     "dynamically replaceable function for " ∷
     "dynamically replaceable variable for " ∷
     "dynamically replaceable key for " ∷
-    "merged " ∷ []
+    "merged " ∷
+    -- 133: of an associated type
+    "associated type descriptor for " ∷ []
 
 abbrev pub count : ℕ
-count = 133
+count = 134
 
 -- the name of that number; nothing past the last name
 unfoldable pub fixed : ℕ → String
@@ -171,7 +173,7 @@ unfoldable pub names : Name
 names = joined fixed-names
 
 abbrev pub size : ℕ
-size = 2685
+size = 2716
 
 -- the part p of the names is the name of the number n
 pub record Named (n : ℕ) (p : Part) : Type 0 where

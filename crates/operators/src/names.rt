@@ -10,12 +10,12 @@ pub struct Part {
     pub len: usize,
 }
 
-// All names, one behind the other: 133 of them. Their numbers are in specs/Fixed.antt.
-pub const NAMES: [u8; 2685] =
-    *b"Swift__C__C_SynthesizedAnyObjectArrayAutoreleasingUnsafeMutablePointerBoolDictionaryDoubleFloatSetDefaultIndicesIntCharacterClosedRangeRangeObjectIdentifierUnsafePointerUnsafeMutablePointerUnsafeBufferPointerUnsafeMutableBufferPointerStringSubstringUIntUnsafeRawPointerUnsafeMutableRawPointerUnsafeRawBufferPointerUnsafeMutableRawBufferPointerOptionalBinaryFloatingPointEncodableDecodableFloatingPointRandomNumberGeneratorHashableNumericBidirectionalCollectionRandomAccessCollectionComparableCollectionMutableCollectionRangeReplaceableCollectionEquatableSequenceIteratorProtocolUnsignedIntegerRangeExpressionStrideableRawRepresentableStringProtocolSignedIntegerBinaryIntegergettersettermodifyreadmaterializeForSetwillsetdidsetunsafeAddressorunsafeMutableAddressormodifyivar initializer for ivar destroyer for module descriptor extension descriptor anonymous descriptor type metadata accessor for full type metadata for metaclass for nominal type descriptor for reflection metadata field descriptor reflection metadata builtin descriptor reflection metadata superclass descriptor reflection metadata assocType descriptor protocol descriptor for protocol conformance descriptor for property descriptor for metadata instantiation cache for lazy cache variable for type metadata for type metadata instantiation function for type metadata instantiation cache for type metadata singleton initialization cache for type metadata completion function for generic type metadata pattern for demangling cache variable for type metadata for mangled name ref for type metadata for type metadata for direct field offset for indirect field offset for value witness table for lazy protocol witness table accessor for type lazy protocol witness table cache variable for type protocol witness table for protocol witness table pattern for protocol witness table accessor for protocol self-conformance witness table for allocateBufferassignWithCopyinitializeWithCopyassignWithTakeinitializeWithTakeinitializeArrayWithTakeBackToFrontdeallocateBufferdestroystoreExtraInhabitantgetExtraInhabitantIndexdestroyBufferdestroyArrayinitializeBufferWithCopyOfBufferinitializeBufferWithCopyinitializeArrayWithCopyinitializeBufferWithTakeinitializeBufferWithTakeOfBufferinitializeArrayWithTakeFrontToBackprojectBuffergetEnumTagdestructiveProjectEnumDatadestructiveInjectEnumTaggetEnumTagSinglePayloadstoreEnumTagSinglePayloadprotocol requirements base descriptor for protocol self-conformance descriptor for method descriptor for async function pointer to dispatch thunk of vtable thunk for @objc @nonobjc dynamically replaceable function for dynamically replaceable variable for dynamically replaceable key for merged ";
+// All names, one behind the other: 134 of them. Their numbers are in specs/Fixed.antt.
+pub const NAMES: [u8; 2716] =
+    *b"Swift__C__C_SynthesizedAnyObjectArrayAutoreleasingUnsafeMutablePointerBoolDictionaryDoubleFloatSetDefaultIndicesIntCharacterClosedRangeRangeObjectIdentifierUnsafePointerUnsafeMutablePointerUnsafeBufferPointerUnsafeMutableBufferPointerStringSubstringUIntUnsafeRawPointerUnsafeMutableRawPointerUnsafeRawBufferPointerUnsafeMutableRawBufferPointerOptionalBinaryFloatingPointEncodableDecodableFloatingPointRandomNumberGeneratorHashableNumericBidirectionalCollectionRandomAccessCollectionComparableCollectionMutableCollectionRangeReplaceableCollectionEquatableSequenceIteratorProtocolUnsignedIntegerRangeExpressionStrideableRawRepresentableStringProtocolSignedIntegerBinaryIntegergettersettermodifyreadmaterializeForSetwillsetdidsetunsafeAddressorunsafeMutableAddressormodifyivar initializer for ivar destroyer for module descriptor extension descriptor anonymous descriptor type metadata accessor for full type metadata for metaclass for nominal type descriptor for reflection metadata field descriptor reflection metadata builtin descriptor reflection metadata superclass descriptor reflection metadata assocType descriptor protocol descriptor for protocol conformance descriptor for property descriptor for metadata instantiation cache for lazy cache variable for type metadata for type metadata instantiation function for type metadata instantiation cache for type metadata singleton initialization cache for type metadata completion function for generic type metadata pattern for demangling cache variable for type metadata for mangled name ref for type metadata for type metadata for direct field offset for indirect field offset for value witness table for lazy protocol witness table accessor for type lazy protocol witness table cache variable for type protocol witness table for protocol witness table pattern for protocol witness table accessor for protocol self-conformance witness table for allocateBufferassignWithCopyinitializeWithCopyassignWithTakeinitializeWithTakeinitializeArrayWithTakeBackToFrontdeallocateBufferdestroystoreExtraInhabitantgetExtraInhabitantIndexdestroyBufferdestroyArrayinitializeBufferWithCopyOfBufferinitializeBufferWithCopyinitializeArrayWithCopyinitializeBufferWithTakeinitializeBufferWithTakeOfBufferinitializeArrayWithTakeFrontToBackprojectBuffergetEnumTagdestructiveProjectEnumDatadestructiveInjectEnumTaggetEnumTagSinglePayloadstoreEnumTagSinglePayloadprotocol requirements base descriptor for protocol self-conformance descriptor for method descriptor for async function pointer to dispatch thunk of vtable thunk for @objc @nonobjc dynamically replaceable function for dynamically replaceable variable for dynamically replaceable key for merged associated type descriptor for ";
 
 // Where each name starts.
-const START: [usize; 133] = [
+const START: [usize; 134] = [
     0,
     5,
     8,
@@ -149,10 +149,11 @@ const START: [usize; 133] = [
     2609,
     2646,
     2678,
+    2685,
 ];
 
 // How long each name is.
-const LENGTH: [usize; 133] = [
+const LENGTH: [usize; 134] = [
     5,
     3,
     15,
@@ -286,13 +287,14 @@ const LENGTH: [usize; 133] = [
     37,
     32,
     7,
+    31,
 ];
 
 // Where the name of that number stands; nothing past the last name.
 pub fn fixed_name(n: usize) -> Part
     ensures { λ r. ⌜ Named n r ⌝ }
 {
-    if n < 133 {
+    if n < 134 {
         return Part {
             start: START[n],
             len: LENGTH[n],

@@ -148,19 +148,27 @@ unfolding seen-of
 length-seen w N zero = refl
 length-seen w N (suc n) = length-append (seen-of w N n) (entry-at w (N + n) ∷ []) ∙ (let q : length (seen-of w N n) + 1 ≡ suc n = omega (arith, length-seen w N n) in q)
 
-module _ {N : ℕ} {w : List ℕ} {st : State} (s : Sound N w st) where
-  deep : st .depth + 1 ≤ st .budget .total
-  deep = omega (arith, s .fits .depth, length-stack w (st .depth))
+module _ {j N : ℕ} {w : List ℕ} {st : State} (s : Sound j N w st) where
+  pub sound-depth : st .depth + j ≤ st .budget .total
+  sound-depth = omega (arith, s .fits .depth, length-stack w (st .depth))
 
+  pub sound-seen : st .seen + j ≤ st .budget .total
+  sound-seen = omega (arith, s .fits .kept, length-seen w N (st .seen))
+
+  -- the stack lies inside the workspace
+  pub sound-inside : 3 * st .depth ≤ length w
+  sound-inside = omega (arith, sound-depth, s .total, s .long)
+
+module _ {N : ℕ} {w : List ℕ} {st : State} (s : Sound 1 N w st) where
   pub sound-light : Light w st
   sound-light = record {
-    held = record { inside = omega (arith, deep, s .total, s .long); sized = s .fits .sized; light = omega (arith, s .fits .weight, s .total, s .ceiling) };
+    held = record { inside = sound-inside s; sized = s .fits .sized; light = omega (arith, s .fits .weight, s .total, s .ceiling) };
     light = omega (arith, s .fits .weight, s .total, s .ceiling);
-    few = omega (arith, deep, s .total, s .ceiling);
+    few = omega (arith, sound-depth s, s .total, s .ceiling);
   }
 
   pub sound-roomy : Roomy N w st
-  sound-roomy = record { long = s .long; ceiling = s .ceiling; total = s .total; deep = deep; seen = omega (arith, s .fits .kept, length-seen w N (st .seen)) }
+  sound-roomy = record { long = s .long; ceiling = s .ceiling; total = s .total; deep = sound-depth s; seen = sound-seen s }
 
 pub roomy-after : {N : ℕ} {w : List ℕ} {st : State} {row : ℕ} {b : Taken} {u : State} → Roomy N w st → RowWent w st row b u → Roomy N w u
 roomy-after r h = record {

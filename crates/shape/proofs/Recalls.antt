@@ -16,12 +16,11 @@ use Rattle.definition.specs.Shape as C
 use Rattle.definition.specs.Shape.{Shapes, Check}
 use Rattle.definition.proofs.Room.{AllOf, Bounded, Fits}
 use Rattle.entries.specs.Lies.{machine-of, seen-of, entry-of, entry-at}
-use Rattle.entries.proofs.Top.{length-stack}
 use Rattle.entries.specs.declared.Entry.{Entry}
 use Rattle.entries.specs.declared.State.{State}
 use Rattle.definition.specs.Enums.{number}
 use Rattle.definition.specs.declared.Refusal.the-variants.{Spelling}
-use Rattle.shape.specs.Performs.{Performing, Failed, Settled, recall-copies}
+use Rattle.shape.specs.Performs.{Performing, Failed, Sound, recall-copies}
 use Rattle.shape.proofs.Stores.{outside-none}
 use Rattle.shape.proofs.Leaves.{length-seen}
 use Rattle.shape.specs.declared.Step.{Step}
@@ -59,15 +58,8 @@ all-at P (x ∷ es) zero {e} a q = let p : x ≡ e = cc in subst P p (a .0)
 all-at P (x ∷ es) (suc i) a q = all-at P es i (a .1) q
 
 -- each remembered entry is one node at least
-pub seen-size : {N : ℕ} {w : List ℕ} {st : State} {i : ℕ} {e : Entry} → Settled N w st → i < st .seen → entry-of e ≡ entry-at w (N + i) → 1 ≤ e .size
+pub seen-size : {N : ℕ} {w : List ℕ} {st : State} {i : ℕ} {e : Entry} → Sound 0 N w st → i < st .seen → entry-of e ≡ entry-at w (N + i) → 1 ≤ e .size
 seen-size {N} {w} {st} {i} {e} s h q = all-at (Bounded (st .budget .total)) (seen-of w N (st .seen)) i (s .fits .remembered) (seen-at w N (st .seen) i h ∙ ap some (sym q)) .0
-
-module _ {N : ℕ} {w : List ℕ} {st : State} (s : Settled N w st) where
-  pub settled-deep : st .depth ≤ st .budget .total
-  settled-deep = omega (arith, s .fits .depth, length-stack w (st .depth))
-
-  pub settled-seen : st .seen ≤ st .budget .total
-  settled-seen = omega (arith, s .fits .kept, length-seen w N (st .seen))
 
 module _ (N : ℕ) (w : List ℕ) (st : State) (times i : ℕ) where
   pub not-recalled : st .seen ≤ i → Failed (recall-copies N times i) N w w st Spelling

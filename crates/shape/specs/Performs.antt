@@ -101,19 +101,12 @@ pub record Puts (N : ℕ) (w : List ℕ) (st : State) : Type 0 where
   pub total : st .budget .total ≤ N
   pub deep : st .depth + 1 ≤ st .budget .total
 
--- the workspace holds a machine that fits its charged total, with the charge of this turn
-pub record Sound (N : ℕ) (w : List ℕ) (st : State) : Type 0 where
+-- the workspace holds a machine that fits its charged total, where j of the charge is not used yet: 1 as an operator begins, 0 after it
+pub record Sound (j N : ℕ) (w : List ℕ) (st : State) : Type 0 where
   pub long : 8 * N ≤ length w
   pub ceiling : N ≤ 65536
   pub total : st .budget .total ≤ N
-  pub fits : Fits 1 (machine-of w N st)
-
--- the same, where nothing is left of the charge
-pub record Settled (N : ℕ) (w : List ℕ) (st : State) : Type 0 where
-  pub long : 8 * N ≤ length w
-  pub ceiling : N ≤ 65536
-  pub total : st .budget .total ≤ N
-  pub fits : Fits 0 (machine-of w N st)
+  pub fits : Fits j (machine-of w N st)
 
 -- there is room for another entry on the stack, and for another that is remembered
 pub record Roomy (N : ℕ) (w : List ℕ) (st : State) : Type 0 where

@@ -10,7 +10,7 @@ ghost use Rattle.definition.specs.Check as Ch;
 ghost use Rattle.shape.specs.Table.{row-leaves};
 ghost use Rattle.definition.specs.Machine as M;
 ghost use Rattle.definition.specs.Shape as C;
-ghost use Rattle.shape.specs.Performs.{Light, RowTaking, Stored, Performing, Wrote, Remembered, LeftBy, put, recall-copies, Puts, Roomy, Sound, Settled, Performs};
+ghost use Rattle.shape.specs.Performs.{Light, RowTaking, Stored, Performing, Wrote, Remembered, LeftBy, put, recall-copies, Puts, Roomy, Sound, Performs};
 use budget::Spent;
 use definition::About;
 use definition::Accessor;
@@ -1349,7 +1349,7 @@ fn leave(ws: &mut [u32], ceiling: usize, st: State, row: usize, a: Taken, copies
 
 // One operator of the check, but for `A`.
 pub fn perform(ws: &mut [u32], ceiling: usize, st: State, op: Operator) -> Step
-    requires { ⌜ Sound ceiling (now ws) st ⌝ }
+    requires { ⌜ Sound 1 ceiling (now ws) st ⌝ }
     ensures { λ r. ⌜ Performs op ceiling (now (ws .entry)) (now (ws .exit)) st r ⌝ }
 {
     let row = row_of(op);
@@ -1361,7 +1361,7 @@ pub fn perform(ws: &mut [u32], ceiling: usize, st: State, op: Operator) -> Step
 
 // A name: it is remembered and pushed, and so many words are known.
 pub fn name(ws: &mut [u32], ceiling: usize, st: State, words: usize) -> State
-    requires { ⌜ Sound ceiling (now ws) st ⌝ }
+    requires { ⌜ Sound 1 ceiling (now ws) st ⌝ }
     ensures { λ r. ⌜ Wrote (Ch.name ceiling words) ceiling (now (ws .entry)) (now (ws .exit)) st r ⌝ }
 {
     let e = Entry {
@@ -1377,7 +1377,7 @@ pub fn name(ws: &mut [u32], ceiling: usize, st: State, words: usize) -> State
 
 // A letter of `A`: so many copies of a remembered entry, by its index.
 pub fn recall(ws: &mut [u32], ceiling: usize, st: State, times: usize, index: usize) -> Step
-    requires { ⌜ Settled ceiling (now ws) st ⌝ }
+    requires { ⌜ Sound 0 ceiling (now ws) st ⌝ }
     ensures { λ r. ⌜ Performing (recall-copies ceiling times index) ceiling (now (ws .entry)) (now (ws .exit)) st r ⌝ }
 {
     let seen = st.seen;

@@ -1,6 +1,7 @@
 -- `shape::recall` meets its contract. Assumes nothing.
 use native.Mathlib.Omega.{arith}
-use Rattle.shape.proofs.Recalls.{seen-size, settled-deep, settled-seen, not-recalled, recalled}
+use Rattle.shape.proofs.Leaves.{sound-depth, sound-seen}
+use Rattle.shape.proofs.Recalls.{seen-size, not-recalled, recalled}
 use borrow.Author.Needs.{needs}
 use Rattle.shape.proofs.recall.Statement.{statement}
 use Rattle.shape.proofs.recall.Tie as tie
@@ -9,13 +10,13 @@ returns : tie.Need-returns
 returns c = not-recalled (c .before .before .args .ceiling) (c .before .before .args .ws .now) (c .before .before .args .st) (c .before .before .args .times) (c .before .before .args .index) (c .if1 .taken)
 
 add-entry-at : tie.Need-add-entry-at
-add-entry-at c = omega (arith, settled-seen (c .before .before .before .pre), c .before .before .before .pre .total, c .before .before .before .pre .ceiling)
+add-entry-at c = omega (arith, sound-seen (c .before .before .before .pre), c .before .before .before .pre .total, c .before .before .before .pre .ceiling)
 
 entry-at-requires : tie.Need-entry-at-requires
-entry-at-requires c κs = omega (arith, settled-seen (c .before .before .before .pre), c .before .before .before .pre .total, c .before .before .before .pre .long)
+entry-at-requires c κs = omega (arith, sound-seen (c .before .before .before .pre), c .before .before .before .pre .total, c .before .before .before .pre .long)
 
 copied-requires : tie.Need-copied-requires
-copied-requires c κs = (c .before .before .before .before .before .pre .long, c .before .before .before .before .before .pre .ceiling, settled-deep (c .before .before .before .before .before .pre), seen-size (c .before .before .before .before .before .pre) (c .before .before .before .if1 .left) (c .before .entry-at .ensures .is))
+copied-requires c κs = (c .before .before .before .before .before .pre .long, c .before .before .before .before .before .pre .ceiling, omega (arith, sound-depth (c .before .before .before .before .before .pre)), seen-size (c .before .before .before .before .before .pre) (c .before .before .before .if1 .left) (c .before .entry-at .ensures .is))
 
 same-length : tie.Need-same-length
 same-length c = search needs

@@ -1,0 +1,72 @@
+-- `checking::one` meets its contract. Assumes nothing.
+use Rattle.checking.proofs.OneOperator.{sound-less, is-name, is-row, is-chain, is-refused}
+use Rattle.runs.proofs.Turns.{digit-here}
+use native.Mathlib.Omega.{arith}
+use borrow.Author.Needs.{needs}
+use Rattle.checking.proofs.one.Statement.{statement}
+use Rattle.checking.proofs.one.Tie as tie
+
+peek-is-digit-requires : tie.Need-peek-is-digit-requires
+peek-is-digit-requires c κs = search needs
+
+named-requires : tie.Need-named-requires
+named-requires c κs = (c .before .before .before .before .before .pre .0, omega (arith, (c .before .before .before .before .before .pre .1)), c .before .before .before .before .before .pre .2)
+
+same-length : tie.Need-same-length
+same-length c = search needs
+
+returns : tie.Need-returns
+returns c = is-name (c .before .before .before .before .before .before .before .before .args .ceiling) (c .before .before .before .before .before .before .before .before .args .text .now) (c .before .before .before .before .before .before .before .before .args .c .at) (c .before .before .before .before .before .before .before .before .pre .1) (c .before .before .before .before .before .before .before .before .args .ws .now) (c .before .before .named .last .1 .1 .0) (c .before .before .before .before .before .before .before .before .args .st) (digit-here (c .before .before .before .before .before .before .before .before .args .text .now) (c .before .before .before .before .before .before .before .before .args .c .at) (c .before .before .before .before .before .before .before .before .pre .1) (c .before .before .before .before .before .peek-is-digit .ensures) (c .before .before .before .before .if1 .taken)) (c .before .before .named .result) (c .before .before .named .ensures)
+
+operator-requires : tie.Need-operator-requires
+operator-requires c κs = (c .before .before .before .before .pre .1)
+
+enum-known-op : tie.Need-enum-known-op
+enum-known-op c = search needs
+
+performed-requires : tie.Need-performed-requires
+performed-requires c κs = c .before .before .before .before .before .before .before .before .before .pre .0
+
+enum-known-next : tie.Need-enum-known-next
+enum-known-next c = search needs
+
+substitutions-requires : tie.Need-substitutions-requires
+substitutions-requires c κs = sound-less (c .before .before .before .before .before .before .before .before .before .pre .0)
+
+enum-known-f : tie.Need-enum-known-f
+enum-known-f c = search needs
+
+same-length-2 : tie.Need-same-length-2
+same-length-2 c = search needs
+
+returns-2 : tie.Need-returns-2
+returns-2 c = is-row (c .before .before .before .before .before .before .before .before .before .before .before .before .args .ceiling) (c .before .before .before .before .before .before .before .before .before .before .before .before .args .text .now) (c .before .before .before .before .before .before .before .before .before .before .before .before .args .c .at) (c .before .before .before .before .before .before .before .before .before .before .before .before .pre .1) (c .before .before .before .before .before .before .before .before .before .before .before .before .args .ws .now) (c .before .before .performed .last .0) (c .before .before .before .before .before .before .before .before .before .before .before .before .args .st) (digit-here (c .before .before .before .before .before .before .before .before .before .before .before .before .args .text .now) (c .before .before .before .before .before .before .before .before .before .before .before .before .args .c .at) (c .before .before .before .before .before .before .before .before .before .before .before .before .pre .1) (c .before .before .before .before .before .before .before .before .before .peek-is-digit .ensures) (c .before .before .before .before .before .before .before .before .if1 .left)) (c .before .before .before .before .before .before .before .operator .result) (c .before .before .before .before .before .before .before .operator .ensures) (c .before .before .before .before .before .op .given .1) (c .before .before .performed .result) (c .before .before .performed .ensures)
+
+same-length-3 : tie.Need-same-length-3
+same-length-3 c = search needs
+
+returns-3 : tie.Need-returns-3
+returns-3 c = is-chain (c .before .before .before .before .before .before .before .before .before .before .before .before .args .ceiling) (c .before .before .before .before .before .before .before .before .before .before .before .before .args .text .now) (c .before .before .before .before .before .before .before .before .before .before .before .before .args .c .at) (c .before .before .before .before .before .before .before .before .before .before .before .before .pre .1) (c .before .before .before .before .before .before .before .before .before .before .before .before .args .ws .now) (c .before .before .substitutions .last .1 .1 .0) (c .before .before .before .before .before .before .before .before .before .before .before .before .args .st) (digit-here (c .before .before .before .before .before .before .before .before .before .before .before .before .args .text .now) (c .before .before .before .before .before .before .before .before .before .before .before .before .args .c .at) (c .before .before .before .before .before .before .before .before .before .before .before .before .pre .1) (c .before .before .before .before .before .before .before .before .before .peek-is-digit .ensures) (c .before .before .before .before .before .before .before .before .if1 .left)) (c .before .before .before .before .before .before .before .operator .result) (c .before .before .before .before .before .before .before .operator .ensures) (c .before .before .before .before .before .next .given .1) (c .before .before .substitutions .result) (c .before .before .substitutions .ensures)
+
+returns-4 : tie.Need-returns-4
+returns-4 c = is-refused (c .before .before .before .before .before .before .before .before .args .ceiling) (c .before .before .before .before .before .before .before .before .args .text .now) (c .before .before .before .before .before .before .before .before .args .c .at) (c .before .before .before .before .before .before .before .before .pre .1) (c .before .before .before .before .before .before .before .before .args .ws .now) (c .before .before .before .before .before .before .before .before .args .ws .now) (c .before .before .before .before .before .before .before .before .args .st) (digit-here (c .before .before .before .before .before .before .before .before .args .text .now) (c .before .before .before .before .before .before .before .before .args .c .at) (c .before .before .before .before .before .before .before .before .pre .1) (c .before .before .before .before .before .peek-is-digit .ensures) (c .before .before .before .before .if1 .left)) (c .before .before .before .operator .result) (c .before .before .before .operator .ensures) (c .before .f .given .1)
+
+pub one-spec : {M : Type 1} → statement M
+one-spec =
+    tie.close
+    (tie.spec
+    peek-is-digit-requires
+    named-requires
+    same-length
+    returns
+    operator-requires
+    enum-known-op
+    performed-requires
+    enum-known-next
+    substitutions-requires
+    enum-known-f
+    same-length-2
+    returns-2
+    same-length-3
+    returns-3
+    returns-4)

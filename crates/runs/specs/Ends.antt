@@ -1,0 +1,32 @@
+-- What is taken at a run's end, and the output slice of a stopped one.
+use mathlib.Core.Path.{_≡_}
+use mathlib.Core.Bool.{Bool}
+use mathlib.Core.List.{List, _++_}
+use Prim.Native.Nat.{ℕ, _≤_, _<_}
+use lib.ListN.{length, drop}
+use Rattle.definition.specs.Kind as K
+use Rattle.definition.specs.Calls.{symbol-kind}
+use Rattle.runs.specs.declared.Final.{Final}
+use Rattle.runs.specs.declared.Final.the-variants as Final
+use Rattle.runs.specs.declared.Written.{Written}
+use Rattle.runs.specs.declared.Written.the-variants as Written
+
+-- the kinds that a call takes
+abbrev pub kinds-of : Final → ℕ → Bool
+kinds-of Final.Symbol = symbol-kind
+kinds-of Final.Type = K.is-type
+
+-- the numbers xs stand at the front of the slice, and the rest is as it was
+pub record Front (xs out out₁ : List ℕ) (n : ℕ) : Type 0 where
+  pub many : n ≡ length xs
+  pub within : n ≤ length out
+  pub is : out₁ ≡ xs ++ drop n out
+
+-- there are more of them than the slice holds, and it is as it was
+pub record TooMany (xs out out₁ : List ℕ) : Type 0 where
+  pub past : length out < length xs
+  pub same : out₁ ≡ out
+
+abbrev pub Writing : List ℕ → (out out₁ : List ℕ) → Written → Type 0
+Writing xs out out₁ (Written.Numbers n) = Front xs out out₁ n
+Writing xs out out₁ Written.Past = TooMany xs out out₁
