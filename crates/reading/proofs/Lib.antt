@@ -1,5 +1,5 @@
-pub mod ByKind
-pub mod Taking
-pub mod Contexts
-pub mod Leaving
-pub mod OneChilds
+pub mod ChainSteps
+pub mod TurnSteps
+pub mod MoreWords
+pub mod RunLoop
+pub mod StackEnds

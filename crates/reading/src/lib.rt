@@ -1,235 +1,335 @@
-// What each operator does to the records: the functions of the Rust under their names.
+// The reading's run: an operator's letters read and performed on records, one turn after another, and what a run's end comes to.
 ghost use mathlib.Core.Path.{_≡_};
+ghost use mathlib.Core.List.{List, [], _∷_, map, reverse};
 ghost use Prim.Native.Nat.{ℕ, _+_, _*_, _^_, _≤_, _<_};
-ghost use lib.ListN.{length};
-ghost use lib.Dec.{eqb};
-ghost use Rattle.kinds.specs.Wanted.{want-of};
-ghost use Rattle.definition.specs.Kind as K;
+ghost use lib.ListN.{length, getD, drop};
+ghost use mathlib.Core.Bool.{true, false};
+ghost use Rattle.definition.specs.Base.{digit};
+ghost use Rattle.definition.specs.Calls as Calls;
+ghost use Rattle.definition.specs.Enums as Enums;
+ghost use Rattle.definition.specs.Node.{entry-of};
 ghost use Rattle.definition.specs.Perform as R;
-ghost use Rattle.records.specs.Holds.{Ready};
-ghost use mathlib.Core.List.{List, [], _∷_};
-ghost use Rattle.definition.specs.Node.{Node, InOut, Metatype, Static, VariableInitializer};
-ghost use Rattle.records.specs.Holds.{Inside};
-ghost use Rattle.reading.specs.Gives.{nothing-spare, full-spare, Takes, Tries, Marks, TakesName, Left, Wraps, Operates, OneChild, over};
+ghost use Rattle.definition.specs.Reading as Reading;
+ghost use Rattle.words.specs.Table.{Fitting};
+ghost use Rattle.records.specs.Holds.{Names, Inside, Holds, Ready};
+ghost use Rattle.runs.specs.Ends.{Writing};
+ghost use Rattle.nodes.specs.Gives.{nothing-spare, full-spare, Kept};
+ghost use Rattle.operators.specs.Chain.{chain, outcome};
+ghost use Rattle.reading.specs.Runs.{Reads, performs, Turning, Letters, Performed, Begins, NameTurn, Ending, Singles};
+use budget::Budget;
 use budget::Spent;
+use definition::Operator;
 use definition::Refusal;
-use kinds::Want;
+use nodes::Step;
+use operators::OperatorRead;
+use operators::SubstitutionRead;
 use records::Fields;
-use records::Popped;
 use records::State;
+use runs::Final;
+use runs::Written;
+use text::Cursor;
+use words::NameRead;
+use words::Words;
 
-// Whether a marker was on top, and the state without it.
-pub struct Marked {
-    pub taken: bool,
-    pub next: State,
-}
-
-// The number of a name that was on top, and the state without it.
-pub enum NameTaken {
-    Name(u32, State),
-    Nothing,
-}
-
-// What an operator comes to.
-pub enum Step {
-    Done(State),
+// The state after an operator and the cursor behind it, or its refusal.
+pub enum Turned {
+    To(State, Cursor),
     Refused(Refusal),
 }
 
-// The state after one wrap more.
-pub enum WrapSpent {
+// One item behind `A` was performed: more follow, it was the last, or it is refused.
+pub enum Letter {
+    More(State, Cursor),
+    Last(State, Cursor),
+    Refused(Refusal),
+}
+
+// A turn has begun: its step is counted and its node charged.
+pub enum Begun {
     Next(State),
-    Refused,
+    Refused(Refusal),
 }
 
-// The top, if it is of a kind that is wanted.
-pub fn pop_if(ws: &[u32], n: usize, st: State, want: Want) -> Popped
-    requires { ⌜ Ready (now ws) n st nothing-spare ⌝ }
-    ensures { λ r. ⌜ Takes (R.pop-if (want-of want)) 3 (now (ws .entry)) (now (ws .entry)) n st r ⌝ }
+// A turn that reads a name, and the words known after it.
+pub struct NameTurned {
+    pub turn: Turned,
+    pub words: Words,
+}
+
+// The state at a run's end; or the refusal, and where in the body the operator began that is refused.
+pub enum Ended {
+    Ran(State),
+    Stopped(Refusal, usize),
+}
+
+// A run's end, and the words known then.
+pub struct Reached {
+    pub end: Ended,
+    pub words: Words,
+}
+
+// The place of the one tree that is left, if it is of a kind that is taken.
+pub enum Left {
+    At(usize),
+    Nothing,
+}
+
+// One operator
+
+// The next item behind `A`: so many copies of a remembered node.
+fn item(text: &[u8], c: Cursor, ws: &mut [u32], n: usize, st: State) -> Letter
+    requires { ⌜ Reads (now text) (now ws) n st nothing-spare ⌝ }
+    ensures { λ r. ⌜ Letters n (now (text .entry)) (c .at) (now (ws .entry)) (now (ws .exit)) st r ⌝ }
 {
-    match records::pop(ws, n, st) {
-        Popped::Place(p, u) => {
-            if kinds::wanted(want, records::field(ws, p, 0)) {
-                return Popped::Place(p, u);
+    match operators::substitution(text, c) {
+        SubstitutionRead::Copies(times, index, last, next) => {
+            match copies::recall(ws, n, st, times, index) {
+                Step::Done(u) => {
+                    if last {
+                        return Letter::Last(u, next);
+                    }
+                    return Letter::More(u, next);
+                }
+                Step::Refused(r) => {
+                    return Letter::Refused(r);
+                }
             }
-            Popped::Nothing
         }
-        Popped::Nothing => Popped::Nothing,
+        SubstitutionRead::Broken(f) => Letter::Refused(f),
     }
 }
 
-// The context on top: a module (an identifier alone is one), a type or an entity.
-pub fn context(ws: &mut [u32], n: usize, st: State) -> Popped
-    requires { ⌜ Ready (now ws) n st nothing-spare ⌝ }
-    ensures { λ r. ⌜ Takes R.context 1 (now (ws .entry)) (now (ws .exit)) n st r ⌝ }
+// `A`, from the cursor behind it: its items one by one.
+fn substitutions(text: &[u8], from: Cursor, ws: &mut [u32], n: usize, st: State) -> Turned
+    requires { ⌜ Reads (now text) (now ws) n st nothing-spare ⌝ }
+    ensures { λ r. ⌜ Turning (performs n (outcome (chain (drop (from .at) (now (text .entry)))))) nothing-spare (now (text .entry)) (now (ws .entry)) (now (ws .exit)) n st r ⌝ }
 {
-    match records::pop(ws, n, st) {
-        Popped::Place(p, u) => {
-            let kind = records::field(ws, p, 0);
-            if kind == 0 {
-                let name = records::field(ws, p, 3);
-                let top = u.top;
-                let rest = Fields {
-                    a: name,
-                    b: 0,
-                    c: 0,
-                    d: 0,
-                    e: 0,
-                };
-                return Popped::Place(top, records::grow(ws, n, u, 1, 1, 0, rest));
+    let mut left = st;
+    let mut c = from;
+    loop {
+        match item(text, c, ws, n, left) {
+            Letter::More(u, next) => {
+                left = u;
+                c = next;
             }
-            if kinds::is_context(kind) {
-                return Popped::Place(p, u);
+            Letter::Last(u, next) => {
+                return Turned::To(u, next);
             }
-            Popped::Nothing
+            Letter::Refused(r) => {
+                return Turned::Refused(r);
+            }
         }
-        Popped::Nothing => Popped::Nothing,
     }
 }
 
-// The top, if it is of a kind that is wanted; and else nothing is taken.
-pub fn try_pop(ws: &[u32], n: usize, st: State, want: Want) -> Popped
-    requires { ⌜ Ready (now ws) n st nothing-spare ⌝ }
-    ensures { λ r. ⌜ Tries (R.try (want-of want)) (now (ws .entry)) n st r ⌝ }
+// An operator that was read, but for `A`; the cursor stands behind it.
+fn performed(ws: &mut [u32], n: usize, st: State, op: Operator, next: Cursor) -> Turned
+    requires { ⌜ Ready (now ws) n st full-spare ⌝ }
+    ensures { λ r. ⌜ Performed (λ fixed. R.perform n (Enums.operator fixed op)) (now (ws .entry)) (now (ws .exit)) n st next r ⌝ }
 {
-    match records::pop(ws, n, st) {
-        Popped::Place(p, u) => {
-            if kinds::wanted(want, records::field(ws, p, 0)) {
-                return Popped::Place(p, u);
-            }
-            Popped::Nothing
-        }
-        Popped::Nothing => Popped::Nothing,
+    match performing::perform(ws, n, st, op) {
+        Step::Done(u) => Turned::To(u, next),
+        Step::Refused(r) => Turned::Refused(r),
     }
 }
 
-// Whether a node of that kind is on top, which is taken off.
-pub fn took(ws: &[u32], n: usize, st: State, kind: u32) -> Marked
-    requires { ⌜ Ready (now ws) n st nothing-spare ⌝ }
-    ensures { λ r. ⌜ Marks (R.took kind) (now (ws .entry)) n st r ⌝ }
+// The operator that begins at the cursor, where no digit stands.
+fn operated(text: &[u8], c: Cursor, ws: &mut [u32], n: usize, st: State) -> Turned
+    requires { ⌜ Reads (now text) (now ws) n st full-spare × (c .at < length (now text)) × (digit (getD (now text) (c .at) 0) ≡ false) ⌝ }
+    ensures { λ r. ⌜ Turning (Reading.one n (drop (c .at) (now (text .entry)))) full-spare (now (text .entry)) (now (ws .entry)) (now (ws .exit)) n st r ⌝ }
 {
-    match try_pop(ws, n, st, Want::Kind(kind)) {
-        Popped::Place(p, u) => Marked {
-            taken: true,
-            next: u,
+    match operators::operator(text, c) {
+        OperatorRead::Read(op, next) => performed(ws, n, st, op, next),
+        OperatorRead::Substitutions(next) => substitutions(text, next, ws, n, st),
+        OperatorRead::Refused(f) => Turned::Refused(f),
+    }
+}
+
+// Runs
+
+// A turn begins: a step, and a charge of 1.
+fn begin(n: usize, st: State) -> Begun
+    ensures { λ r. ⌜ Begins n st r ⌝ }
+{
+    let budget = st.budget;
+    match budget.step() {
+        Spent::Left(stepped) => match stepped.charge(n, 1) {
+            Spent::Left(charged) => Begun::Next(State {
+                budget: charged,
+                top: st.top,
+                depth: st.depth,
+                seen: st.seen,
+            }),
+            Spent::Refused(r) => Begun::Refused(r),
         },
-        Popped::Nothing => Marked {
-            taken: false,
-            next: st,
-        },
+        Spent::Refused(r) => Begun::Refused(r),
     }
 }
 
-// The name of the identifier on top.
-pub fn pop_name(ws: &[u32], n: usize, st: State) -> NameTaken
-    requires { ⌜ Ready (now ws) n st nothing-spare ⌝ }
-    ensures { λ r. ⌜ TakesName R.pop-name (now (ws .entry)) n st r ⌝ }
+// One turn of `run` where no digit stands.
+fn turn(text: &[u8], c: Cursor, ws: &mut [u32], n: usize, st: State) -> Turned
+    requires { ⌜ Reads (now text) (now ws) n st nothing-spare × (c .at < length (now text)) × (digit (getD (now text) (c .at) 0) ≡ false) ⌝ }
+    ensures { λ r. ⌜ Turning (Calls.turn n (Reading.one n) (drop (c .at) (now (text .entry)))) nothing-spare (now (text .entry)) (now (ws .entry)) (now (ws .exit)) n st r ⌝ }
 {
-    match records::pop(ws, n, st) {
-        Popped::Place(p, u) => {
-            if records::field(ws, p, 0) == 0 {
-                return NameTaken::Name(records::field(ws, p, 3), u);
-            }
-            NameTaken::Nothing
-        }
-        Popped::Nothing => NameTaken::Nothing,
+    match begin(n, st) {
+        Begun::Next(u) => operated(text, c, ws, n, u),
+        Begun::Refused(r) => Turned::Refused(r),
     }
 }
 
-// A new record on top of the stack.
-pub fn push_new(
+// An identifier that was read at the cursor becomes a node: it is pushed and remembered.
+fn name(ws: &mut [u32], n: usize, st: State, at: usize) -> State
+    requires { ⌜ Inside (now ws) n st 5 1 1 × (at < 65536) ⌝ }
+    ensures { λ r. ⌜ Kept (now (ws .entry)) (now (ws .exit)) n st r (0 ∷ 1 ∷ 0 ∷ at ∷ 0 ∷ 0 ∷ 0 ∷ 0 ∷ []) ⌝ }
+{
+    let rest = Fields {
+        a: at as u32,
+        b: 0,
+        c: 0,
+        d: 0,
+        e: 0,
+    };
+    nodes::push_kept(ws, n, st, 0, 1, 0, rest)
+}
+
+// One turn of `run` where a digit stands: a name.
+fn name_turn(
+    text: &[u8],
+    c: Cursor,
     ws: &mut [u32],
     n: usize,
     st: State,
-    kind: u32,
-    size: u32,
-    count: u32,
-    rest: Fields,
-) -> State
-    requires { ⌜ Inside (now ws) n st 5 1 0 ⌝ }
-    ensures { λ r. ⌜ Left (now (ws .entry)) (now (ws .exit)) n st r (kind ∷ size ∷ count ∷ rest .a ∷ rest .b ∷ rest .c ∷ rest .d ∷ rest .e ∷ []) ⌝ }
+    words: Words,
+) -> NameTurned
+    requires { ⌜ Ready (now ws) n st nothing-spare × (c .at < length (now text)) × (digit (getD (now text) (c .at) 0) ≡ true) × (length (now text) ≤ 65535) × Fitting (now text) words ⌝ }
+    ensures { λ r. ⌜ NameTurn n (now (text .entry)) (c .at) words (now (ws .entry)) (now (ws .exit)) st r ⌝ }
 {
-    let top = st.top;
-    let u = records::grow(ws, n, st, kind, size, count, rest);
-    records::push(ws, n, u, top)
-}
-
-// One wrap more.
-pub fn wrap(st: State) -> WrapSpent
-    ensures { λ r. ⌜ ((w : List ℕ) (N : ℕ) → Wraps w N st r) ⌝ }
-{
-    let budget = st.budget;
-    match budget.wrap() {
-        Spent::Left(b) => WrapSpent::Next(State {
-            budget: b,
-            top: st.top,
-            depth: st.depth,
-            seen: st.seen,
-        }),
-        Spent::Refused(_) => WrapSpent::Refused,
-    }
-}
-
-// A node of a kind over the node that is wanted on top.
-pub fn one_child(ws: &mut [u32], n: usize, st: State, want: Want, kind: u32) -> Step
-    requires { ⌜ Ready (now ws) n st full-spare ⌝ }
-    ensures { λ r. ⌜ ((c : Node → Node) → OneChild kind c → Operates (over (want-of want) c) (now (ws .entry)) (now (ws .exit)) n st r) ⌝ }
-{
-    match pop_if(ws, n, st, want) {
-        Popped::Place(p, u) => {
-            let size = records::field(ws, p, 1);
-            let rest = Fields {
-                a: p as u32,
-                b: 0,
-                c: 0,
-                d: 0,
-                e: 0,
-            };
-            Step::Done(push_new(ws, n, u, kind, size + 1, 0, rest))
+    match begin(n, st) {
+        Begun::Next(u) => {
+            let read = words::identifier(text, c, words);
+            let got = read.read;
+            let after = read.words;
+            let at = c.at;
+            match got {
+                NameRead::Read(next) => {
+                    let v = name(ws, n, u, at);
+                    NameTurned {
+                        turn: Turned::To(v, next),
+                        words: after,
+                    }
+                }
+                NameRead::Refused(f) => NameTurned {
+                    turn: Turned::Refused(f),
+                    words: after,
+                },
+            }
         }
-        Popped::Nothing => Step::Refused(Refusal::Stack),
+        Begun::Refused(r) => NameTurned {
+            turn: Turned::Refused(r),
+            words,
+        },
     }
 }
 
-// One wrap more, and a node of a kind over the type on top.
-pub fn wrapped(ws: &mut [u32], n: usize, st: State, kind: u32) -> Step
-    requires { ⌜ Ready (now ws) n st full-spare ⌝ }
-    ensures { λ r. ⌜ ((c : Node → Node) → OneChild kind c → Operates (R.wrapped c) (now (ws .entry)) (now (ws .exit)) n st r) ⌝ }
+// `run` by its turns: k of them, or fewer if the body ends. It starts afresh, whatever the workspace holds.
+pub fn run(body: &[u8], k: usize, ws: &mut [u32], n: usize) -> Reached
+    requires { ⌜ (64 * n ≤ length (now ws)) × (n ≤ 65536) × (length (now body) ≤ 65535) ⌝ }
+    ensures { λ r. ⌜ Ending n k (now (body .entry)) (now (ws .entry)) (now (ws .exit)) (r .words) (r .end) ⌝ }
 {
-    match wrap(st) {
-        WrapSpent::Next(u) => one_child(ws, n, u, Want::Type, kind),
-        WrapSpent::Refused => Step::Refused(Refusal::Nesting),
+    let mut st = State {
+        budget: Budget::new(),
+        top: 0,
+        depth: 0,
+        seen: 0,
+    };
+    let mut words = Words::new();
+    let mut c = Cursor { at: 0 };
+    let mut i = 0;
+    while i < k {
+        let at = c.at;
+        if body.len() <= at {
+            return Reached {
+                end: Ended::Ran(st),
+                words,
+            };
+        }
+        if text::peek_is_digit(body, c) {
+            let named = name_turn(body, c, ws, n, st, words);
+            let got = named.turn;
+            words = named.words;
+            match got {
+                Turned::To(u, next) => {
+                    st = u;
+                    c = next;
+                    i += 1;
+                }
+                Turned::Refused(r) => {
+                    return Reached {
+                        end: Ended::Stopped(r, at),
+                        words,
+                    };
+                }
+            }
+        } else {
+            match turn(body, c, ws, n, st) {
+                Turned::To(u, next) => {
+                    st = u;
+                    c = next;
+                    i += 1;
+                }
+                Turned::Refused(r) => {
+                    return Reached {
+                        end: Ended::Stopped(r, at),
+                        words,
+                    };
+                }
+            }
+        }
+    }
+    Reached {
+        end: Ended::Ran(st),
+        words,
     }
 }
 
-// `z`: `inout T`.
-pub fn in_out(ws: &mut [u32], n: usize, st: State) -> Step
-    requires { ⌜ Ready (now ws) n st full-spare ⌝ }
-    ensures { λ r. ⌜ Operates (R.wrapped InOut) (now (ws .entry)) (now (ws .exit)) n st r ⌝ }
+// Ends
+
+// The one tree that is left, if it is of a kind that is taken.
+pub fn single(ws: &[u32], n: usize, st: State, what: Final) -> Left
+    requires { ⌜ Ready (now ws) n st nothing-spare ⌝ }
+    ensures { λ r. ⌜ Singles (now (ws .entry)) n st what r ⌝ }
 {
-    wrapped(ws, n, st, 17)
+    let depth = st.depth;
+    if depth != 1 {
+        return Left::Nothing;
+    }
+    let p = records::wide(ws[60 * n]);
+    if runs::takes(what, records::field(ws, p, 0)) {
+        return Left::At(p);
+    }
+    Left::Nothing
 }
 
-// `m`, `XM`, `Xp`: a type's metatype.
-pub fn metatype(ws: &mut [u32], n: usize, st: State) -> Step
-    requires { ⌜ Ready (now ws) n st full-spare ⌝ }
-    ensures { λ r. ⌜ Operates (R.wrapped Metatype) (now (ws .entry)) (now (ws .exit)) n st r ⌝ }
+// The stack's entries, three numbers each, the first pushed first: each tree's kind, size and count.
+pub fn write_stack(ws: &[u32], n: usize, st: State, out: &mut [u32]) -> Written
+    requires { ⌜ Ready (now ws) n st nothing-spare ⌝ }
+    ensures { λ r. ⌜ ((nm : Names) (m : R.Demangler) → Holds nm (now (ws .entry)) n st nothing-spare m → Writing (Calls.entry-numbers (map entry-of (reverse (m .stack)))) (now (out .entry)) (now (out .exit)) r) ⌝ }
 {
-    wrapped(ws, n, st, 16)
-}
-
-// `Z`: a static member.
-pub fn static_member(ws: &mut [u32], n: usize, st: State) -> Step
-    requires { ⌜ Ready (now ws) n st full-spare ⌝ }
-    ensures { λ r. ⌜ Operates (over K.is-entity Static) (now (ws .entry)) (now (ws .exit)) n st r ⌝ }
-{
-    one_child(ws, n, st, Want::Entity, 25)
-}
-
-// `fi`: the initial value of a variable.
-pub fn variable_initializer(ws: &mut [u32], n: usize, st: State) -> Step
-    requires { ⌜ Ready (now ws) n st full-spare ⌝ }
-    ensures { λ r. ⌜ Operates (over (eqb K.variable) VariableInitializer) (now (ws .entry)) (now (ws .exit)) n st r ⌝ }
-{
-    one_child(ws, n, st, Want::Kind(20), 24)
+    let depth = st.depth;
+    let numbers = 3 * depth;
+    if out.len() < numbers {
+        return Written::Past;
+    }
+    let mut j = 0;
+    while j < depth {
+        let p = records::wide(ws[60 * n + j]);
+        let kind = records::field(ws, p, 0);
+        let size = records::field(ws, p, 1);
+        let count = records::field(ws, p, 2);
+        out[3 * j] = kind;
+        out[3 * j + 1] = size;
+        out[3 * j + 2] = count;
+        j += 1;
+    }
+    Written::Numbers(numbers)
 }

@@ -71,8 +71,10 @@ grew w w′ N st vs q r =
         words = h .words;
       };
       made = λ nm x h. made (Named nm) x (st .top) vs r h;
+      fields = r .fields;
       keeps = record {
         trees = λ nm x p l h. lies-still (Named nm) x p (st .top) l s h;
+        fields = λ p k l h. r .below (8 * p + k) (omega arith);
         past = λ i l. r .above i (omega arith);
         long = r .long;
       };
@@ -86,6 +88,7 @@ module _ (w : List ℕ) (N : ℕ) (st : State) (makes pushes keeps : ℕ) (q : I
   set-keeps : i < 64 * N → Keeps w (set w i v) N (st .top)
   set-keeps l = record {
     trees = λ nm x p h r. lies-still (Named nm) x p (st .top) h set-same r;
+    fields = λ p k h j. set-same .on (8 * p + k) (omega arith);
     past = λ j h. getD-set-other w i j v 0 (other′ (omega arith));
     long = length-set w i v;
   }

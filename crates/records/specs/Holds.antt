@@ -13,22 +13,31 @@ use Rattle.definition.specs.Machine.{machine, restack}
 use Rattle.definition.specs.Perform.{Demangler}
 use Rattle.definition.proofs.WordsAdded.{Begins}
 use Rattle.budget.specs.Spent.{budget-of}
-use Rattle.records.specs.Lies.{Would, Lies}
+use Rattle.records.specs.Lies.{at, Would, Lies}
 use Rattle.records.specs.declared.State.{State}
 use Rattle.records.specs.declared.Popped.{Popped}
 use Rattle.records.specs.declared.Popped.the-variants as Popped
+
+-- the fixed names that operators use of themselves, by number
+pub record Fixed (name : ℕ → String) : Type 0 where
+  pub swift : name 0 ≡ "Swift"
+  pub any-object : name 3 ≡ "AnyObject"
+  pub optional : name 28 ≡ "Optional"
+  pub associated-type : name 133 ≡ "associated type descriptor for "
+  pub past : (n : ℕ) → 134 ≤ n → name n ≡ ""
 
 -- where names come from: the text, the words known by now, the fixed names by number
 pub record Names : Type 0 where
   pub text : Text
   pub words : List Name
   pub fixed : ℕ → String
+  pub known : Fixed fixed
 
 -- the number k stands for the name n: an identifier at that offset of the text, read when no more words were known than now; or, from
--- 65,536 on, a fixed name
+-- 65,536 on, a fixed name; the last number of 32 bits stands for no name, since it says that a label is missing
 pub data Named (nm : Names) (k : ℕ) (n : Name) : Type 0 where
   spelled : (words : List Name) (r : W.Identified) (u : Text) → k < 65536 → W.identifier words (drop k (nm .text)) ≡ ok r u → Begins (r .words) (nm .words) → r .name ≡ n → Named nm k n
-  fixed : 65536 ≤ k → bytes (nm .fixed (k - 65536)) ≡ n → Named nm k n
+  fixed : 65536 ≤ k → k < 4294967295 → bytes (nm .fixed (k - 65536)) ≡ n → Named nm k n
 
 -- the sizes of trees together
 unfoldable pub weight : List Node → ℕ
@@ -120,9 +129,10 @@ abbrev pub Pops : (w : List ℕ) (N : ℕ) (st : State) → Popped → Type 0
 Pops w N st (Popped.Place p u) = Took w N st p u
 Pops w N st Popped.Nothing = (nm : Names) (sp : Spare) (m : Demangler) → Holds nm w N st sp m → m .stack ≡ []
 
--- trees below the place top survive, and so does everything past 64 × N
+-- the records below the place top stay, the trees in them too, and so does everything past 64 × N
 pub record Keeps (w w′ : List ℕ) (N top : ℕ) : Type 0 where
   pub trees : (nm : Names) (x : Node) (p : ℕ) → p < top → Lies (Named nm) x w p → Lies (Named nm) x w′ p
+  pub fields : (p k : ℕ) → p < top → k < 8 → at w′ p k ≡ at w p k
   pub past : (i : ℕ) → 64 * N ≤ i → getD w′ i 0 ≡ getD w i 0
   pub long : length w′ ≡ length w
 
@@ -131,6 +141,7 @@ pub record Grew (w w′ : List ℕ) (N : ℕ) (st u : State) (vs : List ℕ) : T
   pub state : u ≡ record { budget = st .budget; top = st .top + 1; depth = st .depth; seen = st .seen }
   pub holds : (nm : Names) (sp : Spare) (m : Demangler) → Holds nm w N st (for-record sp) m → Holds nm w′ N u sp m
   pub made : (nm : Names) (x : Node) → Would (Named nm) x (λ i. getD vs i 0) w (st .top) → Lies (Named nm) x w′ (st .top)
+  pub fields : (k : ℕ) → k < 8 → at w′ (st .top) k ≡ getD vs k 0
   pub keeps : Keeps w w′ N (st .top)
 
 -- the place p was pushed

@@ -1,0 +1,171 @@
+// Leaves, and copies of a node, each charged its size: `S`, `Sg` and the letters of `A`.
+ghost use mathlib.Core.Path.{_≡_};
+ghost use mathlib.Core.List.{List, [], _∷_};
+ghost use Prim.Native.Nat.{ℕ, _+_, _*_, _^_, _≤_, _<_};
+ghost use Rattle.definition.specs.Enums as Enums;
+ghost use Rattle.definition.specs.Perform as R;
+ghost use Rattle.definition.specs.Machine.{push};
+ghost use Rattle.records.specs.Lies.{at};
+ghost use Rattle.records.specs.Holds.{Inside, Ready, Grew};
+ghost use Rattle.nodes.specs.Gives.{spare, nothing-spare, full-spare, Makes, Operates};
+ghost use Rattle.copies.specs.Copying.{Pushes, Copied, Recalled, ReadyTree, Optioned};
+use budget::Spent;
+use definition::Leaf;
+use definition::NominalKind;
+use definition::Refusal;
+use kinds::Want;
+use nodes::Placed;
+use nodes::Step;
+use nodes::WrapSpent;
+use records::Fields;
+use records::Popped;
+use records::State;
+
+// A node of one record that has no child: a number of its own, or none.
+fn lone(ws: &mut [u32], n: usize, st: State, kind: u32, a: u32) -> Placed
+    requires { ⌜ Inside (now ws) n st 2 0 0 ⌝ }
+    ensures { λ r. ⌜ Grew (now (ws .entry)) (now (ws .exit)) n st (r .next) (kind ∷ 1 ∷ 0 ∷ a ∷ 0 ∷ 0 ∷ 0 ∷ 0 ∷ []) × (r .place ≡ st .top) ⌝ }
+{
+    let top = st.top;
+    let rest = Fields {
+        a: a,
+        b: 0,
+        c: 0,
+        d: 0,
+        e: 0,
+    };
+    Placed {
+        place: top,
+        next: records::grow(ws, n, st, kind, 1, 0, rest),
+    }
+}
+
+// The node of a leaf.
+pub fn leaf(ws: &mut [u32], n: usize, st: State, l: Leaf) -> Placed
+    requires { ⌜ Inside (now ws) n st 4 0 0 ⌝ }
+    ensures { λ r. ⌜ Makes (λ fixed. R.leaf-node (Enums.leaf fixed l)) 4 (now (ws .entry)) (now (ws .exit)) n st r ⌝ }
+{
+    match l {
+        Leaf::Module(name) => lone(ws, n, st, 1, nodes::fixed_number(name)),
+        Leaf::StandardNominal(kind, name) => nodes::standard_nominal(ws, n, st, kind, name),
+        Leaf::GenericParam(p) => nodes::generic_param(ws, n, st, p),
+        Leaf::EmptyList => lone(ws, n, st, 30, 0),
+        Leaf::FirstElementMarker => lone(ws, n, st, 31, 0),
+        Leaf::VariadicMarker => lone(ws, n, st, 32, 0),
+        Leaf::Throws => lone(ws, n, st, 33, 0),
+        Leaf::Async => lone(ws, n, st, 34, 0),
+    }
+}
+
+// A leaf on top of the stack.
+pub fn push_leaf(ws: &mut [u32], n: usize, st: State, l: Leaf) -> Step
+    requires { ⌜ Ready (now ws) n st full-spare ⌝ }
+    ensures { λ r. ⌜ Operates (λ fixed. push (R.leaf-node (Enums.leaf fixed l))) (now (ws .entry)) (now (ws .exit)) n st r ⌝ }
+{
+    let made = leaf(ws, n, st, l);
+    Step::Done(records::push(ws, n, made.next, made.place))
+}
+
+// The place p so many times on top of the stack.
+fn push_copies(ws: &mut [u32], n: usize, st: State, times: usize, p: usize) -> State
+    requires { ⌜ Inside (now ws) n st (3 * times) times 0 ⌝ }
+    requires { ⌜ p < 2 ^ 32 ⌝ }
+    ensures { λ r. ⌜ Pushes (now (ws .entry)) (now (ws .exit)) n st r p times ⌝ }
+{
+    let mut next = st;
+    let mut i = 0;
+    while i < times {
+        next = records::push(ws, n, next, p);
+        i += 1;
+    }
+    next
+}
+
+// So many copies of the tree at place p, each charged its size.
+pub fn copied(ws: &mut [u32], n: usize, st: State, times: usize, p: usize) -> Step
+    requires { ⌜ Ready (now ws) n st nothing-spare ⌝ }
+    requires { ⌜ (p < st .top) × (1 ≤ at (now ws) p 1) ⌝ }
+    ensures { λ r. ⌜ Copied (now (ws .entry)) (now (ws .exit)) n st times p r ⌝ }
+{
+    let size = records::wide(records::field(ws, p, 1));
+    let budget = st.budget;
+    match budget.charge_copies(n, size, times) {
+        Spent::Left(left) => {
+            let next = State {
+                budget: left,
+                top: st.top,
+                depth: st.depth,
+                seen: st.seen,
+            };
+            Step::Done(push_copies(ws, n, next, times, p))
+        }
+        Spent::Refused(r) => Step::Refused(r),
+    }
+}
+
+// `S`: so many copies of a leaf.
+pub fn standard(ws: &mut [u32], n: usize, st: State, repeat: usize, l: Leaf) -> Step
+    requires { ⌜ Ready (now ws) n st full-spare ⌝ }
+    ensures { λ r. ⌜ Operates (λ fixed. R.copied n repeat (R.leaf-node (Enums.leaf fixed l))) (now (ws .entry)) (now (ws .exit)) n st r ⌝ }
+{
+    let made = leaf(ws, n, st, l);
+    copied(ws, n, made.next, repeat, made.place)
+}
+
+// A letter of `A`: so many copies of a remembered node, by its index.
+pub fn recall(ws: &mut [u32], n: usize, st: State, times: usize, index: usize) -> Step
+    requires { ⌜ Ready (now ws) n st nothing-spare ⌝ }
+    ensures { λ r. ⌜ Recalled (now (ws .entry)) (now (ws .exit)) n st times index r ⌝ }
+{
+    let seen = st.seen;
+    if seen <= index {
+        return Step::Refused(Refusal::Spelling);
+    }
+    let p = records::wide(ws[61 * n + index]);
+    copied(ws, n, st, times, p)
+}
+
+// `Optional` of the type at place p, which is remembered; so many copies of it.
+fn optional_of(ws: &mut [u32], n: usize, st: State, repeat: usize, p: usize) -> Step
+    requires { ⌜ ReadyTree (now ws) n st (spare 8 0 0 1) p ⌝ }
+    requires { ⌜ (p < st .top) × (at (now ws) p 1 ≤ 262144) ⌝ }
+    ensures { λ r. ⌜ Optioned (now (ws .entry)) (now (ws .exit)) n st repeat p r ⌝ }
+{
+    let base = nodes::standard_nominal(ws, n, st, NominalKind::Enum, 28);
+    let u = base.next;
+    let cell = u.top;
+    let one = Fields {
+        a: 4294967295,
+        b: p as u32,
+        c: 0,
+        d: 0,
+        e: 0,
+    };
+    let v = records::grow(ws, n, u, 0, 0, 0, one);
+    let size = records::field(ws, p, 1);
+    let top = v.top;
+    let rest = Fields {
+        a: base.place as u32,
+        b: 1,
+        c: cell as u32,
+        d: 0,
+        e: 0,
+    };
+    let x = records::grow(ws, n, v, 18, size + 3, 0, rest);
+    let y = records::remember(ws, n, x, top);
+    copied(ws, n, y, repeat, top)
+}
+
+// `Sg`: one wrap more, and so many copies of `Optional` of the type on top.
+pub fn optional(ws: &mut [u32], n: usize, st: State, repeat: usize) -> Step
+    requires { ⌜ Ready (now ws) n st full-spare ⌝ }
+    ensures { λ r. ⌜ Operates (λ _. R.optional n repeat) (now (ws .entry)) (now (ws .exit)) n st r ⌝ }
+{
+    match nodes::wrap(st) {
+        WrapSpent::Next(u) => match nodes::pop_if(ws, n, u, Want::Type) {
+            Popped::Place(p, v) => optional_of(ws, n, v, repeat, p),
+            Popped::Nothing => Step::Refused(Refusal::Stack),
+        },
+        WrapSpent::Refused => Step::Refused(Refusal::Nesting),
+    }
+}

@@ -1,0 +1,10 @@
+pub mod ByKind
+pub mod Taking
+pub mod Contexts
+pub mod Leaving
+pub mod OneChilds
+pub mod Ready
+pub mod Protocols
+pub mod Params
+pub mod Building
+pub mod Making

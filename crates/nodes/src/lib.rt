@@ -1,0 +1,517 @@
+// What operators take from the stack and leave there, on records; the operators that put one node over the top.
+ghost use mathlib.Core.Path.{_≡_};
+ghost use mathlib.Core.List.{List, [], _∷_};
+ghost use Prim.Native.Nat.{ℕ, _+_, _*_, _^_, _≤_, _<_};
+ghost use lib.Dec.{eqb};
+ghost use lib.ListN.{length};
+ghost use Rattle.definition.specs.Base.{bytes, if_then_else_};
+ghost use Rattle.definition.specs.Enums as Enums;
+ghost use Rattle.definition.specs.Kind as K;
+ghost use Rattle.definition.specs.Node as Node;
+ghost use Rattle.definition.specs.Node.{Node, Module, Nominal, InOut, Metatype, Static, VariableInitializer};
+ghost use Rattle.definition.specs.Perform as R;
+ghost use Rattle.kinds.specs.Wanted.{want-of};
+ghost use Rattle.records.specs.Lies.{at, flag as flag-of};
+ghost use Rattle.records.specs.Holds.{Fixed, Names, Named, Inside, Ready};
+ghost use Rattle.nodes.specs.Gives as Gives;
+ghost use Rattle.nodes.specs.Gives.{spare, nothing-spare, full-spare, low-half, high-half, Takes, Tries, Marks, TakesName, Builds, Makes, Left, Kept, Wraps, Operates, OneChild, over};
+use budget::Spent;
+use definition::NominalKind;
+use definition::Param;
+use definition::Refusal;
+use kinds::Want;
+use records::Fields;
+use records::Popped;
+use records::State;
+
+// Whether a marker was on top, and the state without it.
+pub struct Marked {
+    pub taken: bool,
+    pub next: State,
+}
+
+// The number of a name that was on top, and the state without it.
+pub enum NameTaken {
+    Name(u32, State),
+    Nothing,
+}
+
+// The place of a tree that is made of what is taken, and the state then.
+pub enum Built {
+    Place(usize, State),
+    Refused(Refusal),
+}
+
+// The place of a node that is made, and the state then.
+pub struct Placed {
+    pub place: usize,
+    pub next: State,
+}
+
+// What an operator comes to.
+pub enum Step {
+    Done(State),
+    Refused(Refusal),
+}
+
+// The state after one wrap more.
+pub enum WrapSpent {
+    Next(State),
+    Refused,
+}
+
+// The top, if it is of a kind that is wanted; else nothing is taken.
+pub fn pop_if(ws: &[u32], n: usize, st: State, want: Want) -> Popped
+    requires { ⌜ Ready (now ws) n st nothing-spare ⌝ }
+    ensures { λ r. ⌜ Takes (R.pop-if (want-of want)) 3 (now (ws .entry)) (now (ws .entry)) n st r × Tries (R.try (want-of want)) (now (ws .entry)) n st r ⌝ }
+{
+    match records::pop(ws, n, st) {
+        Popped::Place(p, u) => {
+            if kinds::wanted(want, records::field(ws, p, 0)) {
+                return Popped::Place(p, u);
+            }
+            Popped::Nothing
+        }
+        Popped::Nothing => Popped::Nothing,
+    }
+}
+
+// The context on top: a module (an identifier alone is one), a type or an entity.
+pub fn context(ws: &mut [u32], n: usize, st: State) -> Popped
+    requires { ⌜ Ready (now ws) n st nothing-spare ⌝ }
+    ensures { λ r. ⌜ Takes R.context 1 (now (ws .entry)) (now (ws .exit)) n st r ⌝ }
+{
+    match records::pop(ws, n, st) {
+        Popped::Place(p, u) => {
+            let kind = records::field(ws, p, 0);
+            if kind == 0 {
+                let name = records::field(ws, p, 3);
+                let top = u.top;
+                let rest = Fields {
+                    a: name,
+                    b: 0,
+                    c: 0,
+                    d: 0,
+                    e: 0,
+                };
+                return Popped::Place(top, records::grow(ws, n, u, 1, 1, 0, rest));
+            }
+            if kinds::is_context(kind) {
+                return Popped::Place(p, u);
+            }
+            Popped::Nothing
+        }
+        Popped::Nothing => Popped::Nothing,
+    }
+}
+
+// The place of the first member of the list of protocols at place p.
+fn first_member(ws: &[u32], p: usize) -> usize
+    requires { ⌜ (8 * p + 8 ≤ length (now ws)) × (at (now ws) p 3 < p) ⌝ }
+    ensures { λ r. ⌜ r ≡ at (now (ws .entry)) (at (now (ws .entry)) p 3) 4 ⌝ }
+{
+    let cell = records::wide(records::field(ws, p, 3));
+    records::wide(records::field(ws, cell, 4))
+}
+
+// The protocol on top: one as it stands, the one member of a list, or a name over a context.
+pub fn protocol(ws: &mut [u32], n: usize, st: State) -> Popped
+    requires { ⌜ Ready (now ws) n st nothing-spare ⌝ }
+    ensures { λ r. ⌜ Takes R.protocol 2 (now (ws .entry)) (now (ws .exit)) n st r ⌝ }
+{
+    match records::pop(ws, n, st) {
+        Popped::Place(p, u) => {
+            let kind = records::field(ws, p, 0);
+            if kind == 5 {
+                return Popped::Place(p, u);
+            }
+            if kind == 15 {
+                if records::field(ws, p, 2) == 1 {
+                    return Popped::Place(first_member(ws, p), u);
+                }
+                return Popped::Nothing;
+            }
+            if kind == 0 {
+                let name = records::field(ws, p, 3);
+                return match context(ws, n, u) {
+                    Popped::Place(q, v) => {
+                        let size = records::field(ws, q, 1);
+                        let top = v.top;
+                        let rest = Fields {
+                            a: name,
+                            b: q as u32,
+                            c: 0,
+                            d: 0,
+                            e: 0,
+                        };
+                        Popped::Place(top, records::grow(ws, n, v, 5, size + 1, 0, rest))
+                    }
+                    Popped::Nothing => Popped::Nothing,
+                };
+            }
+            Popped::Nothing
+        }
+        Popped::Nothing => Popped::Nothing,
+    }
+}
+
+// Whether a node of that kind is on top, which is taken off.
+pub fn took(ws: &[u32], n: usize, st: State, kind: u32) -> Marked
+    requires { ⌜ Ready (now ws) n st nothing-spare ⌝ }
+    ensures { λ r. ⌜ Marks (R.took kind) (now (ws .entry)) n st r ⌝ }
+{
+    match pop_if(ws, n, st, Want::Kind(kind)) {
+        Popped::Place(p, u) => Marked {
+            taken: true,
+            next: u,
+        },
+        Popped::Nothing => Marked {
+            taken: false,
+            next: st,
+        },
+    }
+}
+
+// The name of the identifier on top.
+pub fn pop_name(ws: &[u32], n: usize, st: State) -> NameTaken
+    requires { ⌜ Ready (now ws) n st nothing-spare ⌝ }
+    ensures { λ r. ⌜ TakesName R.pop-name (now (ws .entry)) n st r ⌝ }
+{
+    match records::pop(ws, n, st) {
+        Popped::Place(p, u) => {
+            if records::field(ws, p, 0) == 0 {
+                return NameTaken::Name(records::field(ws, p, 3), u);
+            }
+            NameTaken::Nothing
+        }
+        Popped::Nothing => NameTaken::Nothing,
+    }
+}
+
+// The name of a member type: a protocol that is on top is taken off first.
+pub fn assoc_type_name(ws: &[u32], n: usize, st: State) -> NameTaken
+    requires { ⌜ Ready (now ws) n st nothing-spare ⌝ }
+    ensures { λ r. ⌜ TakesName R.assoc-type-name (now (ws .entry)) n st r ⌝ }
+{
+    match pop_if(ws, n, st, Want::Protocol) {
+        Popped::Place(p, u) => pop_name(ws, n, u),
+        Popped::Nothing => pop_name(ws, n, st),
+    }
+}
+
+// The parameters, or the result, of a function type: the empty list stands for no elements.
+pub fn function_params(ws: &mut [u32], n: usize, st: State) -> Popped
+    requires { ⌜ Ready (now ws) n st nothing-spare ⌝ }
+    ensures { λ r. ⌜ Takes R.function-params 1 (now (ws .entry)) (now (ws .exit)) n st r ⌝ }
+{
+    match pop_if(ws, n, st, Want::Kind(30)) {
+        Popped::Place(p, u) => {
+            let top = u.top;
+            let rest = Fields {
+                a: 0,
+                b: 0,
+                c: 0,
+                d: 0,
+                e: 0,
+            };
+            Popped::Place(top, records::grow(ws, n, u, 9, 1, 0, rest))
+        }
+        Popped::Nothing => pop_if(ws, n, st, Want::Type),
+    }
+}
+
+// The number of a nominal's kind.
+pub fn nominal_number(kind: NominalKind) -> u32
+    ensures { λ r. ⌜ r ≡ Node.nominal-kind (Enums.nominal-kind kind) ⌝ }
+{
+    match kind {
+        NominalKind::Class => 2,
+        NominalKind::Struct => 3,
+        NominalKind::Enum => 4,
+        NominalKind::Protocol => 5,
+        NominalKind::TypeAlias => 6,
+    }
+}
+
+// The number that stands for a fixed name. Past the last of them there is no name.
+pub fn fixed_number(name: usize) -> u32
+    ensures { λ r. ⌜ ((nm : Names) → Fixed (nm .fixed) → Named nm r (bytes (nm .fixed name))) ⌝ }
+{
+    if name < 134 {
+        return 65536 + name as u32;
+    }
+    65670
+}
+
+// The halves of a number of 64 bits.
+pub fn low(x: usize) -> u32
+    ensures { λ r. ⌜ r ≡ low-half x ⌝ }
+{
+    (x % 4294967296) as u32
+}
+
+pub fn high(x: usize) -> u32
+    ensures { λ r. ⌜ r ≡ high-half x ⌝ }
+{
+    (x / 4294967296) as u32
+}
+
+// A generic parameter.
+pub fn generic_param(ws: &mut [u32], n: usize, st: State, p: Param) -> Placed
+    requires { ⌜ Inside (now ws) n st 2 0 0 ⌝ }
+    ensures { λ r. ⌜ Makes (λ _. R.generic-param (Enums.param p)) 2 (now (ws .entry)) (now (ws .exit)) n st r ⌝ }
+{
+    let top = st.top;
+    let rest = Fields {
+        a: low(p.depth),
+        b: high(p.depth),
+        c: low(p.index),
+        d: high(p.index),
+        e: 0,
+    };
+    Placed {
+        place: top,
+        next: records::grow(ws, n, st, 7, 1, 0, rest),
+    }
+}
+
+// A type of the module Swift: the fixed name of that number.
+pub fn standard_nominal(
+    ws: &mut [u32],
+    n: usize,
+    st: State,
+    kind: NominalKind,
+    name: usize,
+) -> Placed
+    requires { ⌜ Inside (now ws) n st 4 0 0 ⌝ }
+    ensures { λ r. ⌜ Makes (λ fixed. Nominal (Enums.nominal-kind kind) (Module (bytes "Swift")) (bytes (fixed name))) 4 (now (ws .entry)) (now (ws .exit)) n st r ⌝ }
+{
+    let module = st.top;
+    let swift = Fields {
+        a: 65536,
+        b: 0,
+        c: 0,
+        d: 0,
+        e: 0,
+    };
+    let u = records::grow(ws, n, st, 1, 1, 0, swift);
+    let top = u.top;
+    let rest = Fields {
+        a: fixed_number(name),
+        b: module as u32,
+        c: 0,
+        d: 0,
+        e: 0,
+    };
+    Placed {
+        place: top,
+        next: records::grow(ws, n, u, nominal_number(kind), 2, 0, rest),
+    }
+}
+
+pub fn flag(b: bool) -> u32
+    ensures { λ r. ⌜ r ≡ flag-of b ⌝ }
+{
+    if b {
+        return 1;
+    }
+    0
+}
+
+// How many parameters a function type has whose parameters lie at place p.
+fn param_count(ws: &[u32], p: usize) -> u32
+    requires { ⌜ 8 * p + 8 ≤ length (now ws) ⌝ }
+    ensures { λ r. ⌜ r ≡ (if eqb (at (now (ws .entry)) p 0) K.tuple then at (now (ws .entry)) p 2 else 1) ⌝ }
+{
+    if records::field(ws, p, 0) == 9 {
+        return records::field(ws, p, 2);
+    }
+    1
+}
+
+// Behind the effects of a function type: its parameters and its result.
+fn between(ws: &mut [u32], n: usize, st: State, throws: bool, is_async: bool) -> Built
+    requires { ⌜ Ready (now ws) n st (spare 0 0 1 0) ⌝ }
+    ensures { λ r. ⌜ Builds (Gives.between throws «is_async») 1 0 (now (ws .entry)) (now (ws .exit)) n st r ⌝ }
+{
+    match function_params(ws, n, st) {
+        Popped::Place(p, u) => match function_params(ws, n, u) {
+            Popped::Place(q, v) => {
+                let size = records::field(ws, p, 1) + records::field(ws, q, 1);
+                let count = param_count(ws, p);
+                let top = v.top;
+                let rest = Fields {
+                    a: p as u32,
+                    b: q as u32,
+                    c: flag(throws),
+                    d: flag(is_async),
+                    e: 0,
+                };
+                Built::Place(top, records::grow(ws, n, v, 10, size + 1, count, rest))
+            }
+            Popped::Nothing => Built::Refused(Refusal::Stack),
+        },
+        Popped::Nothing => Built::Refused(Refusal::Stack),
+    }
+}
+
+// A function type: one wrap more, its effects, its parameters and its result.
+pub fn function_type(ws: &mut [u32], n: usize, st: State) -> Built
+    requires { ⌜ Ready (now ws) n st (spare 0 0 1 0) ⌝ }
+    ensures { λ r. ⌜ Builds R.function-type 1 0 (now (ws .entry)) (now (ws .exit)) n st r ⌝ }
+{
+    match wrap(st) {
+        WrapSpent::Next(u) => {
+            let throws = took(ws, n, u, 33);
+            let is_async = took(ws, n, throws.next, 34);
+            between(ws, n, is_async.next, throws.taken, is_async.taken)
+        }
+        WrapSpent::Refused => Built::Refused(Refusal::Nesting),
+    }
+}
+
+// A conformance: its home, its protocol and its type.
+pub fn conformance(ws: &mut [u32], n: usize, st: State) -> Built
+    requires { ⌜ Ready (now ws) n st (spare 0 0 1 0) ⌝ }
+    ensures { λ r. ⌜ Builds R.conformance 1 4 (now (ws .entry)) (now (ws .exit)) n st r ⌝ }
+{
+    match context(ws, n, st) {
+        Popped::Place(home, u) => match protocol(ws, n, u) {
+            Popped::Place(p, v) => match pop_if(ws, n, v, Want::Type) {
+                Popped::Place(ty, x) => {
+                    let size = records::field(ws, ty, 1) + records::field(ws, p, 1);
+                    let whole = size + records::field(ws, home, 1);
+                    let top = x.top;
+                    let rest = Fields {
+                        a: ty as u32,
+                        b: p as u32,
+                        c: home as u32,
+                        d: 0,
+                        e: 0,
+                    };
+                    Built::Place(top, records::grow(ws, n, x, 27, whole + 1, 0, rest))
+                }
+                Popped::Nothing => Built::Refused(Refusal::Stack),
+            },
+            Popped::Nothing => Built::Refused(Refusal::Stack),
+        },
+        Popped::Nothing => Built::Refused(Refusal::Stack),
+    }
+}
+
+// A new record on top of the stack.
+pub fn push_new(
+    ws: &mut [u32],
+    n: usize,
+    st: State,
+    kind: u32,
+    size: u32,
+    count: u32,
+    rest: Fields,
+) -> State
+    requires { ⌜ Inside (now ws) n st 5 1 0 ⌝ }
+    ensures { λ r. ⌜ Left (now (ws .entry)) (now (ws .exit)) n st r (kind ∷ size ∷ count ∷ rest .a ∷ rest .b ∷ rest .c ∷ rest .d ∷ rest .e ∷ []) ⌝ }
+{
+    let top = st.top;
+    let u = records::grow(ws, n, st, kind, size, count, rest);
+    records::push(ws, n, u, top)
+}
+
+// A new record on top of the stack, which is remembered.
+pub fn push_kept(
+    ws: &mut [u32],
+    n: usize,
+    st: State,
+    kind: u32,
+    size: u32,
+    count: u32,
+    rest: Fields,
+) -> State
+    requires { ⌜ Inside (now ws) n st 5 1 1 ⌝ }
+    ensures { λ r. ⌜ Kept (now (ws .entry)) (now (ws .exit)) n st r (kind ∷ size ∷ count ∷ rest .a ∷ rest .b ∷ rest .c ∷ rest .d ∷ rest .e ∷ []) ⌝ }
+{
+    let top = st.top;
+    let u = records::grow(ws, n, st, kind, size, count, rest);
+    let v = records::remember(ws, n, u, top);
+    records::push(ws, n, v, top)
+}
+
+// One wrap more.
+pub fn wrap(st: State) -> WrapSpent
+    ensures { λ r. ⌜ ((w : List ℕ) (N : ℕ) → Wraps w N st r) ⌝ }
+{
+    let budget = st.budget;
+    match budget.wrap() {
+        Spent::Left(b) => WrapSpent::Next(State {
+            budget: b,
+            top: st.top,
+            depth: st.depth,
+            seen: st.seen,
+        }),
+        Spent::Refused(_) => WrapSpent::Refused,
+    }
+}
+
+// A node of a kind over the node that is wanted on top.
+pub fn one_child(ws: &mut [u32], n: usize, st: State, want: Want, kind: u32) -> Step
+    requires { ⌜ Ready (now ws) n st full-spare ⌝ }
+    ensures { λ r. ⌜ ((c : Node → Node) → OneChild kind c → Operates (over (want-of want) c) (now (ws .entry)) (now (ws .exit)) n st r) ⌝ }
+{
+    match pop_if(ws, n, st, want) {
+        Popped::Place(p, u) => {
+            let size = records::field(ws, p, 1);
+            let rest = Fields {
+                a: p as u32,
+                b: 0,
+                c: 0,
+                d: 0,
+                e: 0,
+            };
+            Step::Done(push_new(ws, n, u, kind, size + 1, 0, rest))
+        }
+        Popped::Nothing => Step::Refused(Refusal::Stack),
+    }
+}
+
+// One wrap more, and a node of a kind over the type on top.
+pub fn wrapped(ws: &mut [u32], n: usize, st: State, kind: u32) -> Step
+    requires { ⌜ Ready (now ws) n st full-spare ⌝ }
+    ensures { λ r. ⌜ ((c : Node → Node) → OneChild kind c → Operates (λ _. R.wrapped c) (now (ws .entry)) (now (ws .exit)) n st r) ⌝ }
+{
+    match wrap(st) {
+        WrapSpent::Next(u) => one_child(ws, n, u, Want::Type, kind),
+        WrapSpent::Refused => Step::Refused(Refusal::Nesting),
+    }
+}
+
+// `z`: `inout T`.
+pub fn in_out(ws: &mut [u32], n: usize, st: State) -> Step
+    requires { ⌜ Ready (now ws) n st full-spare ⌝ }
+    ensures { λ r. ⌜ Operates (λ _. R.wrapped InOut) (now (ws .entry)) (now (ws .exit)) n st r ⌝ }
+{
+    wrapped(ws, n, st, 17)
+}
+
+// `m`, `XM`, `Xp`: a type's metatype.
+pub fn metatype(ws: &mut [u32], n: usize, st: State) -> Step
+    requires { ⌜ Ready (now ws) n st full-spare ⌝ }
+    ensures { λ r. ⌜ Operates (λ _. R.wrapped Metatype) (now (ws .entry)) (now (ws .exit)) n st r ⌝ }
+{
+    wrapped(ws, n, st, 16)
+}
+
+// `Z`: a static member.
+pub fn static_member(ws: &mut [u32], n: usize, st: State) -> Step
+    requires { ⌜ Ready (now ws) n st full-spare ⌝ }
+    ensures { λ r. ⌜ Operates (over K.is-entity Static) (now (ws .entry)) (now (ws .exit)) n st r ⌝ }
+{
+    one_child(ws, n, st, Want::Entity, 25)
+}
+
+// `fi`: the initial value of a variable.
+pub fn variable_initializer(ws: &mut [u32], n: usize, st: State) -> Step
+    requires { ⌜ Ready (now ws) n st full-spare ⌝ }
+    ensures { λ r. ⌜ Operates (over (eqb K.variable) VariableInitializer) (now (ws .entry)) (now (ws .exit)) n st r ⌝ }
+{
+    one_child(ws, n, st, Want::Kind(20), 24)
+}

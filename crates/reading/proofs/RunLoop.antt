@@ -1,0 +1,126 @@
+-- Turns one after another. Assumes nothing.
+use mathlib.Core.Path.{_≡_, refl, sym, ap, subst, _∙_}
+use mathlib.Core.List.{List, [], _∷_}
+use Prim.Native.Nat.{ℕ, zero, suc, _+_, _*_, _-_, _≤_, _<_}
+use native.Mathlib.Omega.{arith}
+use lib.ListN.{length, getD, drop}
+use Rattle.definition.specs.Base.{Name, Out, ok, refused}
+use Rattle.definition.specs.Text.{Text}
+use Rattle.definition.specs.Budget as B
+use Rattle.definition.specs.Machine as M
+use Rattle.definition.specs.Perform.{Demangler}
+use Rattle.definition.specs.Reading as Reading
+use Rattle.definition.specs.Calls.{ran, stopped, turn, turns}
+use Rattle.definition.specs.Enums.{number}
+use Rattle.definition.specs.declared.Refusal.{Refusal}
+use Rattle.budget.specs.Spent.{budget-of}
+use Rattle.budget.specs.declared.Budget.{Budget}
+use Rattle.text.specs.declared.Cursor.{Cursor}
+use Rattle.records.specs.Holds.{weight, Spare, Holds, Ready}
+use Rattle.records.specs.declared.State.{State}
+use Rattle.runs.proofs.Turns.{over, no-more, goes-on, stops}
+use Rattle.nodes.specs.Gives.{nothing-spare, Beyond}
+use Rattle.nodes.proofs.Taking.{beyond-itself}
+use Rattle.nodes.proofs.Leaving.{beyond-both}
+use Rattle.naming.specs.Naming.{names-of, naming}
+use Rattle.words.specs.Table.{table, Fitting}
+use Rattle.words.specs.declared.Words.{Words}
+use Rattle.reading.specs.Runs.{Reads, Came, Comes, Fails, Turning, NameCame, NameFails, NameTurning, read, Ran, Stopped}
+use Rattle.reading.specs.declared.Turned.{Turned}
+use Rattle.reading.specs.declared.Turned.the-variants as Turned
+
+-- THE LOOP: i turns are done, and the rest comes to what the whole does
+pub record Running (N k : ℕ) (body : Text) (w w₁ : List ℕ) (i at : ℕ) (words : Words) (u : State) : Type 0 where
+  pub machine : Demangler
+  pub is : read N k body ≡ turns (turn N (Reading.one N)) (k - i) (drop at body) machine
+  pub inside : at ≤ length body
+  pub holds : Holds (naming body words) w₁ N u nothing-spare machine
+  pub fitting : Fitting body words
+  pub beyond : Beyond w w₁ N
+
+-- nothing lies there
+abbrev pub at-first : Budget → State
+at-first b = record { budget = b; top = 0; depth = 0; seen = 0 }
+
+pub run-first : (N k : ℕ) (body : Text) (w : List ℕ) {b : Budget} {words : Words} → budget-of b ≡ B.fresh → table body words ≡ [] → Fitting body words → 64 * N ≤ length w → N ≤ 65536 → Running N k body w w 0 0 words (at-first b)
+unfolding B.fresh weight
+run-first N k body w {b} {words} q e f l h =
+    let t : b .total ≡ 0 = ap (λ (x : B.Budget). x .total) q in
+    let z : k ≡ k - 0 = omega arith in
+    record {
+      machine = M.fresh [];
+      is = ap (λ (n : ℕ). turns (turn N (Reading.one N)) n body (M.fresh [])) z;
+      inside = omega arith;
+      holds = record {
+        small = h;
+        long = l;
+        charged = omega (arith, t);
+        budget = q;
+        room = omega (arith, t);
+        deep = omega (arith, t);
+        light = omega (arith, t);
+        kept = omega (arith, t);
+        stack = refl;
+        substitutions = refl;
+        words = e;
+      };
+      fitting = f;
+      beyond = beyond-itself w N;
+    }
+
+module _ {N k : ℕ} {body : Text} {w w₁ : List ℕ} {i at : ℕ} {words : Words} {u : State} (h : Running N k body w w₁ i at words u) where
+  pub run-reads : Reads body w₁ N u nothing-spare
+  run-reads = record { words = table body words; machine = h .machine; holds = h .holds }
+
+  pub run-over : length body ≤ at → Ran N k body w w₁ words u
+  run-over l = record { machine = h .machine; is = h .is ∙ over (turn N (Reading.one N)) body (k - i) at (h .machine) l; holds = h .holds; fitting = h .fitting; beyond = h .beyond }
+
+  pub run-done : k ≤ i → Ran N k body w w₁ words u
+  run-done l = record { machine = h .machine; is = h .is ∙ no-more (turn N (Reading.one N)) body (k - i) at (h .machine) (omega arith); holds = h .holds; fitting = h .fitting; beyond = h .beyond }
+
+  module _ (l : at < length body) (m : i < k) where
+    one-less : k - i ≡ suc (k - (i + 1))
+    one-less = omega arith
+
+    goes : {f : Demangler} (t : Text) → turn N (Reading.one N) (drop at body) (h .machine) ≡ ok t f → read N k body ≡ turns (turn N (Reading.one N)) (k - (i + 1)) t f
+    goes {f} t q = h .is ∙ goes-on (turn N (Reading.one N)) body at l (h .machine) (k - i) (k - (i + 1)) one-less t f q
+
+    pub run-more : {w₂ : List ℕ} {v : State} {c : Cursor} → Comes (turn N (Reading.one N) (drop at body)) nothing-spare body w₁ w₂ N u v c → Running N k body w w₂ (i + 1) (c .at) words v
+    run-more {w₂} {v} {c} g =
+        let o = g .comes (table body words) (h .machine) (h .holds) in
+        record { machine = o .machine; is = goes (drop (c .at) body) (o .is); inside = g .inside; holds = o .holds; fitting = h .fitting; beyond = beyond-both (h .beyond) (g .beyond) }
+
+    pub run-stopped : {w₂ : List ℕ} {r : Refusal} → Fails (turn N (Reading.one N) (drop at body)) nothing-spare body w₁ w₂ N u r → Stopped N k body w w₂ r at
+    run-stopped {r = r} g = record {
+      is = h .is ∙ stops (turn N (Reading.one N)) body at l (h .machine) (k - i) (k - (i + 1)) one-less (number r) (g .fails (table body words) (h .machine) (h .holds));
+      inside = omega arith;
+      beyond = beyond-both (h .beyond) (g .beyond);
+    }
+
+    -- a name
+    pub name-more : {w₂ : List ℕ} {v : State} {c : Cursor} (after : Words) → NameCame N body at words after w₁ w₂ u v c → Fitting body after → Running N k body w w₂ (i + 1) (c .at) after v
+    name-more {w₂} {v} {c} after g f =
+        let o = g .comes (h .machine) (h .holds) in
+        record { machine = o .machine; is = goes (drop (c .at) body) (o .is); inside = g .inside; holds = o .holds; fitting = f; beyond = beyond-both (h .beyond) (g .beyond) }
+
+    pub name-stopped : {w₂ : List ℕ} {r : Refusal} → NameFails N body at words w₁ w₂ u r → Stopped N k body w w₂ r at
+    name-stopped {r = r} g = record {
+      is = h .is ∙ stops (turn N (Reading.one N)) body at l (h .machine) (k - i) (k - (i + 1)) one-less (number r) (g .fails (h .machine) (h .holds));
+      inside = omega arith;
+      beyond = beyond-both (h .beyond) (g .beyond);
+    }
+
+-- AFTER A MATCH
+module _ (N : ℕ) (text : Text) (at : ℕ) (w w₁ : List ℕ) (st : State) {r : Turned} where
+  pub reached : {u : State} {c : Cursor} → r ≡ Turned.To u c → Turning (turn N (Reading.one N) (drop at text)) nothing-spare text w w₁ N st r → Comes (turn N (Reading.one N) (drop at text)) nothing-spare text w w₁ N st u c
+  reached q h = subst (Turning (turn N (Reading.one N) (drop at text)) nothing-spare text w w₁ N st) q h
+
+  pub not-reached : {x : Refusal} → r ≡ Turned.Refused x → Turning (turn N (Reading.one N) (drop at text)) nothing-spare text w w₁ N st r → Fails (turn N (Reading.one N) (drop at text)) nothing-spare text w w₁ N st x
+  not-reached q h = subst (Turning (turn N (Reading.one N) (drop at text)) nothing-spare text w w₁ N st) q h
+
+  module _ (words after : Words) where
+    pub name-reached : {u : State} {c : Cursor} → r ≡ Turned.To u c → NameTurning N text at words after w w₁ st r → NameCame N text at words after w w₁ st u c
+    name-reached q h = subst (NameTurning N text at words after w w₁ st) q h
+
+    pub name-not-reached : {x : Refusal} → r ≡ Turned.Refused x → NameTurning N text at words after w w₁ st r → NameFails N text at words w w₁ st x
+    name-not-reached q h = subst (NameTurning N text at words after w w₁ st) q h

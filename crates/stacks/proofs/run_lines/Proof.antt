@@ -1,0 +1,72 @@
+use borrow.Author.Needs.{needs}
+use Prim.Native.Nat.{_-_, _+_, _≤_}
+use lib.ListN.{length}
+use Rattle.stacks.proofs.run_lines.Statement.{statement}
+use Rattle.stacks.proofs.run_lines.Tie as tie
+use Rattle.stacks.proofs.run_lines.Reads as reads
+use Rattle.stacks.proofs.run_lines.Lts as lts
+use Rattle.stacks.proofs.line_end.Reads as line-end-reads
+use Rattle.stacks.proofs.run_line.Reads as run-line-reads
+
+abbrev Inv-loop : tie.InvT-loop
+Inv-loop all at₀ at = at ≤ length all + 1
+
+abbrev μ-loop : tie.MeasureT-loop
+μ-loop all at₀ at = (length all + 1) - at
+
+-- src/main.rt:128:5
+loop-holds : tie.Need-loop-holds Inv-loop μ-loop
+loop-holds c = search needs
+
+-- src/main.rt:129:13
+line-end-requires : tie.Need-line-end-requires Inv-loop μ-loop
+line-end-requires c κs = search needs
+
+-- src/main.rt:130:18
+sub-run-line : tie.Need-sub-run-line Inv-loop μ-loop
+sub-run-line c = search needs
+
+-- src/main.rt:130:18
+part-run-line-start : tie.Need-part-run-line-start Inv-loop μ-loop
+part-run-line-start c = search needs
+
+-- src/main.rt:130:18
+part-run-line-end : tie.Need-part-run-line-end Inv-loop μ-loop
+part-run-line-end c = search needs
+
+-- src/main.rt:130:9
+run-line-requires : tie.Need-run-line-requires Inv-loop μ-loop
+run-line-requires c κs = search needs
+
+-- src/main.rt:131:14
+add-at : tie.Need-add-at Inv-loop μ-loop
+add-at c = search needs
+
+-- src/main.rt:128:5
+loop-less : tie.Need-loop-less Inv-loop μ-loop
+loop-less c = search needs
+
+-- src/main.rt:128:5
+loop-again : tie.Need-loop-again Inv-loop μ-loop
+loop-again c = search needs
+
+-- src/main.rt:126:1
+returns : tie.Need-returns Inv-loop μ-loop
+returns c = search needs
+
+pub run-lines-spec : {M : Type 1} → statement M
+run-lines-spec =
+    tie.close
+    (tie.spec
+    Inv-loop
+    μ-loop
+    loop-holds
+    line-end-requires
+    sub-run-line
+    part-run-line-start
+    part-run-line-end
+    run-line-requires
+    add-at
+    loop-less
+    loop-again
+    returns)

@@ -1,0 +1,7 @@
+pub mod Nominals
+pub mod Cells
+pub mod Gatherings
+pub mod Rounding
+pub mod Collecting
+pub mod ListNodes
+pub mod Archetypes

@@ -1,0 +1,133 @@
+-- Lists that operators take from the stack: how they lie in the workspace, and what the code that takes them says of the definition's loops.
+use mathlib.Core.Path.{_≡_}
+use mathlib.Core.List.{List}
+use mathlib.Core.Option.{Option}
+use Prim.Native.Nat.{ℕ, suc, _+_, _^_, _≤_, _<_}
+use Rattle.definition.specs.Base.{Name, ok, refused, ret, if_then_else_, and-then, _>>=_, _>>_}
+use Rattle.definition.specs.Node.{Node, Nodes, nil, cons, BoundGeneric, kind, size, count, sizes, many}
+use Rattle.definition.specs.Machine as M
+use Rattle.definition.specs.Perform as R
+use Rattle.definition.specs.Perform.{Demangler, Run}
+use Rattle.definition.specs.Kind as K
+use Rattle.records.specs.Lies.{at, LabelIs, Cells, Body, Lies}
+use Rattle.records.specs.Holds.{Names, Named, Spare, Inside, Holds, Keeps}
+use Rattle.records.specs.declared.State.{State}
+use Rattle.nodes.specs.Gives.{spare, taken, Performed, Beyond}
+use Rattle.types.specs.declared.Chain.{Chain}
+use Rattle.types.specs.declared.Added.{Added}
+use Rattle.types.specs.declared.LabelTaken.{LabelTaken}
+use Rattle.types.specs.declared.Round.{Round}
+use Rattle.types.specs.declared.Round.the-variants as Round
+use Rattle.types.specs.declared.Listing.{Listing}
+use Rattle.types.specs.declared.Listing.the-variants as Listing
+use Rattle.types.specs.declared.Lists.{Lists}
+use Rattle.types.specs.declared.Lists.the-variants as Lists
+
+-- what there is to spare after the nodes of a list were taken, and a cell made of each
+abbrev pub grown : Nodes → Spare → Spare
+grown ns sp = spare (sp .makes) (sp .pushes + many ns) (sp .nodes + sizes ns) (sp .keeps)
+
+-- the list ns lies in w, its cells below top: how many, their sizes together, the place of the first
+pub record Listed (nm : Names) (ns : Nodes) (w : List ℕ) (top : ℕ) (l : Chain) : Type 0 where
+  pub many-is : l .count ≡ many ns
+  pub sizes-is : l .sum ≡ sizes ns
+  pub cells : Cells (Named nm) ns 0 (λ _. l .first) w top
+
+-- some machine lies there, and some list of what was taken from it
+pub record Gathering (w : List ℕ) (N : ℕ) (st : State) (sp : Spare) (l : Chain) : Type 0 where
+  pub names : Names
+  pub machine : Demangler
+  pub list : Nodes
+  pub holds : Holds names w N st (grown list sp) machine
+  pub listed : Listed names list w (st .top) l
+
+-- the tree at p can be put in front of the list
+pub record CellFits (w : List ℕ) (N : ℕ) (st : State) (l : Chain) (p : ℕ) : Type 0 where
+  pub inside : Inside w N st 2 0 0
+  pub below : p < st .top
+  pub sum : l .sum + at w p 1 < 2 ^ 32
+  pub count : l .count + 1 < 2 ^ 32
+
+-- it was put there, with a label
+pub record Adds (w w′ : List ℕ) (N : ℕ) (st : State) (l : Chain) (label p : ℕ) (r : Added) : Type 0 where
+  pub top : r .next .top ≡ st .top + 1
+  pub depth : r .next .depth ≡ st .depth
+  pub keeps : Keeps w w′ N (st .top)
+  pub listed : (nm : Names) (o : Option Name) (x : Node) (ns : Nodes) → Listed nm ns w (st .top) l → LabelIs (Named nm) o label → Lies (Named nm) x w p → Listed nm (cons o x ns) w′ (r .next .top) (r .list)
+  pub holds : (nm : Names) (sp : Spare) (m : Demangler) (o : Option Name) (x : Node) (ns : Nodes) → Holds nm w N st (taken 2 (size x) (grown ns sp)) m → Holds nm w′ N (r .next) (grown (cons o x ns) sp) m
+
+-- a label, if there is one
+pub record GivenLabel (nm : Names) (w : List ℕ) (N : ℕ) (r : LabelTaken) (sp : Spare) (m : Demangler) : Type 0 where
+  pub label : Option Node
+  pub machine : Demangler
+  pub is : R.try K.is-identifier m ≡ ok label machine
+  pub labelled : LabelIs (Named nm) (R.label-of label) (r .label)
+  pub holds : Holds nm w N (r .next) sp machine
+
+pub record Labels (w : List ℕ) (N : ℕ) (st : State) (r : LabelTaken) : Type 0 where
+  pub deep : r .next .depth ≤ st .depth
+  pub top : r .next .top ≡ st .top
+  pub gives : (nm : Names) (sp : Spare) (m : Demangler) → Holds nm w N st sp m → GivenLabel nm w N r sp m
+
+-- a loop of the definition, by the rounds that it may have and the list so far
+abbrev pub Loop : Type 0
+Loop = ℕ → Nodes → Run Nodes
+
+-- the step f comes to what next makes of a list that lies there
+pub record Went (f : Run Nodes) (next : Nodes → Run Nodes) (nm : Names) (w : List ℕ) (N : ℕ) (u : State) (l : Chain) (sp : Spare) (m : Demangler) : Type 0 where
+  pub list : Nodes
+  pub machine : Demangler
+  pub is : f m ≡ next list machine
+  pub listed : Listed nm list w (u .top) l
+  pub holds : Holds nm w N u (grown list sp) machine
+
+-- one round of a loop, whatever machine and list lay in w
+pub record Turns (loop next : Loop) (w w′ : List ℕ) (N : ℕ) (st : State) (l : Chain) (l′ : Chain) (u : State) : Type 0 where
+  pub rising : st .top ≤ u .top
+  pub keeps : Keeps w w′ N (st .top)
+  pub gives : (nm : Names) (sp : Spare) (m : Demangler) (ns : Nodes) (f : ℕ) → Holds nm w N st (grown ns sp) m → Listed nm ns w (st .top) l → Went (loop (suc f) ns) (next f) nm w′ N u l′ sp m
+
+abbrev pub Rounds : Loop → (w w′ : List ℕ) (N : ℕ) (st : State) (l : Chain) → Round → Type 0
+Rounds loop w w′ N st l (Round.More l′ u) = Turns loop loop w w′ N st l l′ u × (u .depth < st .depth)
+Rounds loop w w′ N st l (Round.Last l′ u) = Turns loop (λ f. ret) w w′ N st l l′ u
+Rounds loop w w′ N st l Round.Refused = ((nm : Names) (sp : Spare) (m : Demangler) (ns : Nodes) (f : ℕ) → Holds nm w N st sp m → loop (suc f) ns m ≡ refused 10) × Beyond w w′ N
+
+-- the whole list: a loop that may have more rounds than there are nodes on the stack
+pub record Collected (loop : Loop) (w w′ : List ℕ) (N : ℕ) (st : State) (l : Chain) (u : State) : Type 0 where
+  pub rising : st .top ≤ u .top
+  pub keeps : Keeps w w′ N (st .top)
+  pub gives : (nm : Names) (sp : Spare) (m : Demangler) (f : ℕ) → st .depth < f → Holds nm w N st sp m → Went (loop f nil) ret nm w′ N u l sp m
+
+abbrev pub Collects : Loop → (w w′ : List ℕ) (N : ℕ) (st : State) → Listing → Type 0
+Collects loop w w′ N st (Listing.Cells l u) = Collected loop w w′ N st l u
+Collects loop w w′ N st Listing.Nothing = ((nm : Names) (sp : Spare) (m : Demangler) (f : ℕ) → st .depth < f → Holds nm w N st sp m → loop f nil m ≡ refused 10) × Beyond w w′ N
+
+abbrev pub loop-of : Lists → Loop
+loop-of Lists.Elements = R.elements
+loop-of Lists.Arguments = R.arguments
+loop-of Lists.Requirements = R.requirements
+loop-of Lists.Members = R.members
+
+-- the nodes of a kind that have a list alone, from field 3 on
+pub record ListNode (k : ℕ) (c : Nodes → Node) : Type 0 where
+  pub kind-is : (ns : Nodes) → kind (c ns) ≡ k
+  pub size-is : (ns : Nodes) → size (c ns) ≡ 1 + sizes ns
+  pub count-is : (ns : Nodes) → count (c ns) ≡ many ns
+  pub body : (nm : Names) (ns : Nodes) (f : ℕ → ℕ) (w : List ℕ) (p : ℕ) → Cells (Named nm) ns 3 f w p → Body (Named nm) (c ns) f w p
+
+-- a node c over a list, or over the empty list
+abbrev pub delimited : Loop → (Nodes → Node) → Performed
+delimited loop c fixed = do
+  empty ← R.took K.empty-list
+  f ← M.rounds
+  ns ← if empty then ret nil else loop f nil
+  M.push (c ns)
+
+-- the arguments of a generic type and the type under them
+abbrev pub applied : Performed
+applied fixed = do
+  f ← M.rounds
+  args ← R.arguments f nil
+  base ← R.pop-if K.is-type
+  M.remember (BoundGeneric base args)
+  M.push (BoundGeneric base args)

@@ -1,0 +1,233 @@
+// What the operators of records and witnesses do to the records: the functions of the Rust under their names.
+ghost use mathlib.Core.Path.{_≡_};
+ghost use mathlib.Core.List.{List, [], _∷_};
+ghost use Prim.Native.Nat.{ℕ, _+_, _≤_};
+ghost use Rattle.definition.specs.Base.{bytes};
+ghost use Rattle.definition.specs.Enums as Enums;
+ghost use Rattle.definition.specs.Node.{Node};
+ghost use Rattle.definition.specs.Operators as Op;
+ghost use Rattle.definition.specs.Perform as R;
+ghost use Rattle.records.specs.Lies.{at};
+ghost use Rattle.records.specs.Holds.{Ready};
+ghost use Rattle.records.specs.declared.State.{State as State-of};
+ghost use Rattle.nodes.specs.Gives.{spare, nothing-spare, full-spare, Takes, Builds, Operates, Left};
+ghost use Rattle.witnesses.specs.Witnesses.{Under, record-over, Qualifies};
+use definition::About;
+use definition::Refusal;
+use kinds::Want;
+use nodes::Built;
+use nodes::NameTaken;
+use nodes::Step;
+use records::Fields;
+use records::Popped;
+use records::State;
+
+// The form of an associated conformance with its qualifier's cell, and the state then.
+pub struct Qualified {
+    pub form: u32,
+    pub cell: u32,
+    pub next: State,
+}
+
+// A tree that was taken, as one that is built.
+fn built(r: Popped) -> Built
+    ensures { λ b. ⌜ ((f : R.Run Node) (gain : ℕ) (w w′ : List ℕ) (N : ℕ) (st : State-of) → 1 ≤ gain → Takes f gain w w′ N st r → Builds f 1 1 w w′ N st b) ⌝ }
+{
+    match r {
+        Popped::Place(p, u) => Built::Place(p, u),
+        Popped::Nothing => Built::Refused(Refusal::Stack),
+    }
+}
+
+// What a record is about.
+fn about(ws: &mut [u32], n: usize, st: State, what: About) -> Built
+    requires { ⌜ Ready (now ws) n st (spare 0 0 1 0) ⌝ }
+    ensures { λ r. ⌜ Builds (R.about (Enums.about what)) 1 1 (now (ws .entry)) (now (ws .exit)) n st r ⌝ }
+{
+    match what {
+        About::Type => built(nodes::pop_if(ws, n, st, Want::Type)),
+        About::Entity => built(nodes::pop_if(ws, n, st, Want::Entity)),
+        About::Context => built(nodes::context(ws, n, st)),
+        About::Protocol => built(nodes::protocol(ws, n, st)),
+        About::Conformance => nodes::conformance(ws, n, st),
+        About::Anything => built(nodes::pop_if(ws, n, st, Want::Anything)),
+    }
+}
+
+// A record of words over the tree at place p, on top of the stack. The form says which words c and d are.
+fn push_record(ws: &mut [u32], n: usize, st: State, p: usize, form: u32, c: u32, d: u32) -> State
+    requires { ⌜ Under (now ws) n st p ⌝ }
+    ensures { λ r. ⌜ Left (now (ws .entry)) (now (ws .exit)) n st r (26 ∷ (at (now (ws .entry)) p 1 + 1) ∷ 0 ∷ form ∷ p ∷ c ∷ d ∷ 0 ∷ []) ⌝ }
+{
+    let size = records::field(ws, p, 1);
+    let rest = Fields {
+        a: form,
+        b: p as u32,
+        c: c,
+        d: d,
+        e: 0,
+    };
+    nodes::push_new(ws, n, st, 26, size + 1, 0, rest)
+}
+
+// A record of fixed words.
+pub fn record_of(ws: &mut [u32], n: usize, st: State, what: About, name: usize) -> Step
+    requires { ⌜ Ready (now ws) n st full-spare ⌝ }
+    ensures { λ r. ⌜ Operates (record-over (Enums.about what) (λ fixed. bytes (fixed name))) (now (ws .entry)) (now (ws .exit)) n st r ⌝ }
+{
+    match about(ws, n, st, what) {
+        Built::Place(p, u) => Step::Done(push_record(ws, n, u, p, 0, nodes::fixed_number(name), 0)),
+        Built::Refused(r) => Step::Refused(r),
+    }
+}
+
+// `TY`: a record of words that have a number in them.
+pub fn suspend_resume(ws: &mut [u32], n: usize, st: State, i: usize) -> Step
+    requires { ⌜ Ready (now ws) n st full-spare ⌝ }
+    ensures { λ r. ⌜ Operates (record-over Op.an-entity (λ _. Op.suspend-resume-text i)) (now (ws .entry)) (now (ws .exit)) n st r ⌝ }
+{
+    match about(ws, n, st, About::Entity) {
+        Built::Place(p, u) => Step::Done(push_record(
+            ws,
+            n,
+            u,
+            p,
+            3,
+            nodes::low(i),
+            nodes::high(i),
+        )),
+        Built::Refused(r) => Step::Refused(r),
+    }
+}
+
+// `Wl`, `WL`: a lazy witness of a type and its conformance.
+pub fn lazy_witness(ws: &mut [u32], n: usize, st: State, name: usize) -> Step
+    requires { ⌜ Ready (now ws) n st full-spare ⌝ }
+    ensures { λ r. ⌜ Operates (λ fixed. R.lazy-witness (bytes (fixed name))) (now (ws .entry)) (now (ws .exit)) n st r ⌝ }
+{
+    match nodes::conformance(ws, n, st) {
+        Built::Place(c, u) => match nodes::pop_if(ws, n, u, Want::Type) {
+            Popped::Place(ty, v) => {
+                let rest = Fields {
+                    a: 1,
+                    b: nodes::fixed_number(name),
+                    c: ty as u32,
+                    d: c as u32,
+                    e: 0,
+                };
+                Step::Done(nodes::push_new(ws, n, v, 26, 2, 0, rest))
+            }
+            Popped::Nothing => Step::Refused(Refusal::Stack),
+        },
+        Built::Refused(r) => Step::Refused(r),
+    }
+}
+
+// `TW`: the witness of an entity in a conformance.
+pub fn protocol_witness(ws: &mut [u32], n: usize, st: State) -> Step
+    requires { ⌜ Ready (now ws) n st full-spare ⌝ }
+    ensures { λ r. ⌜ Operates (λ _. R.protocol-witness) (now (ws .entry)) (now (ws .exit)) n st r ⌝ }
+{
+    match nodes::pop_if(ws, n, st, Want::Entity) {
+        Popped::Place(entity, u) => match nodes::conformance(ws, n, u) {
+            Built::Place(c, v) => {
+                let size = records::field(ws, entity, 1) + records::field(ws, c, 1);
+                let rest = Fields {
+                    a: entity as u32,
+                    b: c as u32,
+                    c: 0,
+                    d: 0,
+                    e: 0,
+                };
+                Step::Done(nodes::push_new(ws, n, v, 28, size + 1, 0, rest))
+            }
+            Built::Refused(r) => Step::Refused(r),
+        },
+        Popped::Nothing => Step::Refused(Refusal::Stack),
+    }
+}
+
+// `Tl`: the descriptor of a protocol's associated type.
+pub fn associated_type(ws: &mut [u32], n: usize, st: State) -> Step
+    requires { ⌜ Ready (now ws) n st full-spare ⌝ }
+    ensures { λ r. ⌜ Operates (λ _. R.associated-type) (now (ws .entry)) (now (ws .exit)) n st r ⌝ }
+{
+    match nodes::protocol(ws, n, st) {
+        Popped::Place(p, u) => match nodes::pop_name(ws, n, u) {
+            NameTaken::Name(name, v) => {
+                let size = records::field(ws, p, 1);
+                let member = v.top;
+                let rest = Fields {
+                    a: name,
+                    b: p as u32,
+                    c: 0,
+                    d: 0,
+                    e: 0,
+                };
+                let x = records::grow(ws, n, v, 8, size + 1, 0, rest);
+                Step::Done(push_record(ws, n, x, member, 0, 65669, 0))
+            }
+            NameTaken::Nothing => Step::Refused(Refusal::Stack),
+        },
+        Popped::Nothing => Step::Refused(Refusal::Stack),
+    }
+}
+
+// The protocol on top that qualifies an associated conformance, if there is one: in a cell of its own.
+fn qualifier(ws: &mut [u32], n: usize, st: State) -> Qualified
+    requires { ⌜ Ready (now ws) n st nothing-spare ⌝ }
+    ensures { λ r. ⌜ Qualifies (now (ws .entry)) (now (ws .exit)) n st r ⌝ }
+{
+    match nodes::pop_if(ws, n, st, Want::Protocol) {
+        Popped::Place(p, u) => {
+            let cell = u.top as u32;
+            let rest = Fields {
+                a: 4294967295,
+                b: p as u32,
+                c: 0,
+                d: 0,
+                e: 0,
+            };
+            Qualified {
+                form: 4,
+                cell: cell,
+                next: records::grow(ws, n, u, 0, 0, 0, rest),
+            }
+        }
+        Popped::Nothing => Qualified {
+            form: 2,
+            cell: 0,
+            next: st,
+        },
+    }
+}
+
+// `Tn`: the descriptor of an associated conformance.
+pub fn associated_conformance(ws: &mut [u32], n: usize, st: State) -> Step
+    requires { ⌜ Ready (now ws) n st full-spare ⌝ }
+    ensures { λ r. ⌜ Operates (λ _. R.associated-conformance) (now (ws .entry)) (now (ws .exit)) n st r ⌝ }
+{
+    match nodes::protocol(ws, n, st) {
+        Popped::Place(required, u) => {
+            let marked = nodes::took(ws, n, u, 31);
+            let q = qualifier(ws, n, marked.next);
+            match nodes::pop_name(ws, n, q.next) {
+                NameTaken::Name(name, v) => match nodes::pop_if(ws, n, v, Want::Type) {
+                    Popped::Place(p, x) => {
+                        let rest = Fields {
+                            a: q.form,
+                            b: name,
+                            c: p as u32,
+                            d: q.cell,
+                            e: required as u32,
+                        };
+                        Step::Done(nodes::push_new(ws, n, x, 26, 2, 0, rest))
+                    }
+                    Popped::Nothing => Step::Refused(Refusal::Stack),
+                },
+                NameTaken::Nothing => Step::Refused(Refusal::Stack),
+            }
+        }
+        Popped::Nothing => Step::Refused(Refusal::Stack),
+    }
+}
