@@ -1,0 +1,15 @@
+-- `printing::zero_or` meets its contract. Assumes nothing.
+use Rattle.printing.proofs.FormLaws.{zero-is, other-is}
+use Rattle.printing.proofs.zero_or.Statement.{statement}
+use Rattle.printing.proofs.zero_or.Tie as tie
+use Rattle.printing.proofs.zero_or.Reads as reads
+use Rattle.printing.proofs.zero_or.Lts as lts
+
+returns : tie.Need-returns
+returns c = zero-is _ _ (c .if1 .taken)
+
+returns-2 : tie.Need-returns-2
+returns-2 c = other-is _ _ (c .if1 .left)
+
+pub zero-or-spec : {M : Type 1} → statement M
+zero-or-spec = tie.close (tie.spec returns returns-2)
