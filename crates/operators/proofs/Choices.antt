@@ -8,16 +8,18 @@ use Prim.Native.Char.{Char, code}
 use native.Mathlib.Omega.{arith}
 use borrow.Author.Tests.{lt-ltb, ne-eqb}
 use lib.Dec.{eqb, ltb}
+use lib.ListN.{take, drop}
 use Rattle.definition.specs.Base.{if_then_else_, given, Out, ok, refused, pick, and-then, or-refuse, ret}
 use Rattle.definition.specs.Text.{Text, Lex, next}
-use Rattle.definition.specs.Operators.{Operator, choose, choose-then, operator, operators, substitutions-letters}
+use Rattle.definition.specs.Operators.{Operator, choose, choose-then, operator, operators, substitutions-letters, async-types, function-entities, context-descriptors, field-offsets, special-types, metatype-records, witnesses, thunks}
+use Rattle.definition.specs.Operators.{opened as opened₀}
 use Rattle.definition.specs.Enums.{number}
 use Rattle.definition.specs.declared.Refusal.{Refusal}
 use Rattle.text.specs.Cursor.{Byted}
 use Rattle.text.specs.declared.Cursor.{Cursor}
 use Rattle.text.specs.declared.Byte.{Byte}
 use Rattle.text.specs.declared.Byte.the-variants as Byte
-use Rattle.operators.specs.Tables.{lifted, first-letters, meaning, kinds-below, picked, step-at, Row, Searched, At}
+use Rattle.operators.specs.Tables.{lifted, first-letters, row-table, meaning, kinds-below, picked, step-at, Row, Searched, At}
 use Rattle.operators.specs.Answers.{Stands, Operated, Begun}
 use Rattle.operators.proofs.Places.{pick-later}
 use Rattle.operators.proofs.Rows.{kind-is}
@@ -82,6 +84,40 @@ lifted-chooses table (refused n) = refl
 pub choose-lifted : (table : List (Char × Operator)) (t : Text) → choose table t ≡ choose-then (lifted table) t
 unfolding choose choose-then
 choose-lifted table t = lifted-chooses table (next t)
+
+-- each table's rows
+module _ (t : Text) where
+  pub async-rows : choose async-types t ≡ choose-then (take 1 (drop 0 row-table)) t
+  unfolding opened₀ row-table lifted first-letters
+  async-rows = choose-lifted async-types t
+
+  pub function-rows : choose function-entities t ≡ choose-then (take 7 (drop 1 row-table)) t
+  unfolding opened₀ row-table lifted first-letters
+  function-rows = choose-lifted function-entities t
+
+  pub context-rows : choose context-descriptors t ≡ choose-then (take 3 (drop 8 row-table)) t
+  unfolding opened₀ row-table lifted first-letters
+  context-rows = choose-lifted context-descriptors t
+
+  pub field-rows : choose field-offsets t ≡ choose-then (take 2 (drop 11 row-table)) t
+  unfolding opened₀ row-table lifted first-letters
+  field-rows = choose-lifted field-offsets t
+
+  pub special-rows : choose-then special-types t ≡ choose-then (take 11 (drop 13 row-table)) t
+  unfolding opened₀ row-table lifted first-letters
+  special-rows = refl
+
+  pub metatype-rows : choose-then metatype-records t ≡ choose-then (take 21 (drop 24 row-table)) t
+  unfolding opened₀ row-table lifted first-letters
+  metatype-rows = refl
+
+  pub witness-rows : choose-then witnesses t ≡ choose-then (take 8 (drop 45 row-table)) t
+  unfolding opened₀ row-table lifted first-letters
+  witness-rows = refl
+
+  pub thunk-rows : choose-then thunks t ≡ choose-then (take 16 (drop 53 row-table)) t
+  unfolding opened₀ row-table lifted first-letters
+  thunk-rows = refl
 
 -- ROWS
 pub row-step : (n : ℕ) (r : Coded) (t : Text) → Row n r → step-at n t ≡ meaning (r .kind) (r .name) t

@@ -410,34 +410,6 @@ fn choose(text: &[u8], c: Cursor, start: usize, count: usize) -> OperatorRead
     }
 }
 
-// `Y`
-fn async_type(text: &[u8], c: Cursor) -> OperatorRead
-    ensures { λ r. ⌜ Operated (Op.choose Op.async-types (drop (c .at) (now (text .entry)))) (now (text .entry)) (c .at) r ⌝ }
-{
-    choose(text, c, 0, 1)
-}
-
-// `f`
-fn function_entity(text: &[u8], c: Cursor) -> OperatorRead
-    ensures { λ r. ⌜ Operated (Op.choose Op.function-entities (drop (c .at) (now (text .entry)))) (now (text .entry)) (c .at) r ⌝ }
-{
-    choose(text, c, 1, 7)
-}
-
-// `MX`
-fn context_descriptor(text: &[u8], c: Cursor) -> OperatorRead
-    ensures { λ r. ⌜ Operated (Op.choose Op.context-descriptors (drop (c .at) (now (text .entry)))) (now (text .entry)) (c .at) r ⌝ }
-{
-    choose(text, c, 8, 3)
-}
-
-// `Wv`
-fn field_offset(text: &[u8], c: Cursor) -> OperatorRead
-    ensures { λ r. ⌜ Operated (Op.choose Op.field-offsets (drop (c .at) (now (text .entry)))) (now (text .entry)) (c .at) r ⌝ }
-{
-    choose(text, c, 11, 2)
-}
-
 // `XM` and any byte
 fn any_byte(text: &[u8], c: Cursor) -> OperatorRead
     ensures { λ r. ⌜ Operated (any-byte (drop (c .at) (now (text .entry)))) (now (text .entry)) (c .at) r ⌝ }
@@ -472,8 +444,10 @@ fn row(text: &[u8], c: Cursor, n: usize) -> OperatorRead
     }
     match kind {
         37 => any_byte(text, c),
-        38 => context_descriptor(text, c),
-        39 => field_offset(text, c),
+        // `MX`
+        38 => choose(text, c, 8, 3),
+        // `Wv`
+        39 => choose(text, c, 11, 2),
         _ => suspend_resume(text, c),
     }
 }
@@ -496,34 +470,6 @@ fn choose_then(text: &[u8], c: Cursor, start: usize, count: usize) -> OperatorRe
         Byte::Read(b, next) => choose_row(text, next, start, count, b),
         Byte::Refused(f) => OperatorRead::Refused(f),
     }
-}
-
-// `X`
-fn special_type(text: &[u8], c: Cursor) -> OperatorRead
-    ensures { λ r. ⌜ Operated (Op.choose-then Op.special-types (drop (c .at) (now (text .entry)))) (now (text .entry)) (c .at) r ⌝ }
-{
-    choose_then(text, c, 13, 11)
-}
-
-// `M`
-fn metatype_record(text: &[u8], c: Cursor) -> OperatorRead
-    ensures { λ r. ⌜ Operated (Op.choose-then Op.metatype-records (drop (c .at) (now (text .entry)))) (now (text .entry)) (c .at) r ⌝ }
-{
-    choose_then(text, c, 24, 21)
-}
-
-// `W`
-fn witness(text: &[u8], c: Cursor) -> OperatorRead
-    ensures { λ r. ⌜ Operated (Op.choose-then Op.witnesses (drop (c .at) (now (text .entry)))) (now (text .entry)) (c .at) r ⌝ }
-{
-    choose_then(text, c, 45, 8)
-}
-
-// `T`
-fn thunk(text: &[u8], c: Cursor) -> OperatorRead
-    ensures { λ r. ⌜ Operated (Op.choose-then Op.thunks (drop (c .at) (now (text .entry)))) (now (text .entry)) (c .at) r ⌝ }
-{
-    choose_then(text, c, 53, 16)
 }
 
 // `S`: standard types and modules
@@ -989,18 +935,24 @@ fn first_row(text: &[u8], c: Cursor, n: usize) -> OperatorRead
     }
     match kind {
         41 => standard(text, c),
-        42 => special_type(text, c),
-        43 => async_type(text, c),
+        // `X`
+        42 => choose_then(text, c, 13, 11),
+        // `Y`
+        43 => choose(text, c, 0, 1),
         44 => generic_param(text, c),
         45 => archetype(text, c),
         46 => requirement(text, c),
         47 => generic_signature(text, c),
         48 => variable(text, c),
-        49 => function_entity(text, c),
-        50 => metatype_record(text, c),
-        51 => witness(text, c),
+        // `f`
+        49 => choose(text, c, 1, 7),
+        // `M`
+        50 => choose_then(text, c, 24, 21),
+        // `W`
+        51 => choose_then(text, c, 45, 8),
         52 => value_witness(text, c),
-        _ => thunk(text, c),
+        // `T`
+        _ => choose_then(text, c, 53, 16),
     }
 }
 

@@ -1,8 +1,5 @@
 // The fixed names: every text that an operator brings by itself.
-ghost use mathlib.Core.Path.{_≡_};
-ghost use Prim.Native.Nat.{ℕ, _<_, _≤_};
-ghost use lib.ListN.{length, getD};
-ghost use Rattle.operators.specs.Fixed.{size, names, Named};
+ghost use Rattle.operators.specs.Fixed.{Named};
 
 // A part of the fixed names' bytes.
 pub struct Part {
@@ -301,12 +298,4 @@ pub fn fixed_name(n: usize) -> Part
         };
     }
     Part { start: 0, len: 0 }
-}
-
-// A byte of the names.
-pub fn name_byte(i: usize) -> u8
-    requires { ⌜ i < size ⌝ }
-    ensures { λ r. ⌜ r ≡ getD names i 0 ⌝ }
-{
-    NAMES[i]
 }

@@ -6,7 +6,7 @@ use Rattle.definition.specs.Text.{Lex}
 use Rattle.definition.specs.Operators.{Operator}
 use Rattle.operators.specs.Tables.{meaning, simples, steps}
 use Rattle.operators.proofs.Rows.{passed-from}
-use Rattle.operators.proofs.Choices.{operated-is, row-step, row-of-kind, kinds-below-all}
+use Rattle.operators.proofs.Choices.{operated-is, row-step, row-of-kind, kinds-below-all, special-rows, async-rows, function-rows, metatype-rows, witness-rows, thunk-rows}
 use borrow.Author.Needs.{needs}
 use native.Mathlib.Omega.{arith}
 use Rattle.operators.proofs.first_row.Statement.{statement}
@@ -28,11 +28,11 @@ returns c = record {
 standard-requires : tie.Need-standard-requires
 standard-requires c κs = search needs
 
-special-type-requires : tie.Need-special-type-requires
-special-type-requires c κs = search needs
+choose-then-requires : tie.Need-choose-then-requires
+choose-then-requires c κs = search needs
 
-async-type-requires : tie.Need-async-type-requires
-async-type-requires c κs = search needs
+choose-requires : tie.Need-choose-requires
+choose-requires c κs = search needs
 
 generic-param-requires : tie.Need-generic-param-requires
 generic-param-requires c κs = search needs
@@ -49,20 +49,20 @@ generic-signature-requires c κs = search needs
 variable-requires : tie.Need-variable-requires
 variable-requires c κs = search needs
 
-function-entity-requires : tie.Need-function-entity-requires
-function-entity-requires c κs = search needs
+choose-requires-2 : tie.Need-choose-requires-2
+choose-requires-2 c κs = search needs
 
-metatype-record-requires : tie.Need-metatype-record-requires
-metatype-record-requires c κs = search needs
+choose-then-requires-2 : tie.Need-choose-then-requires-2
+choose-then-requires-2 c κs = search needs
 
-witness-requires : tie.Need-witness-requires
-witness-requires c κs = search needs
+choose-then-requires-3 : tie.Need-choose-then-requires-3
+choose-then-requires-3 c κs = search needs
 
 value-witness-requires : tie.Need-value-witness-requires
 value-witness-requires c κs = search needs
 
-thunk-requires : tie.Need-thunk-requires
-thunk-requires c κs = search needs
+choose-then-requires-4 : tie.Need-choose-then-requires-4
+choose-then-requires-4 c κs = search needs
 
 returns-2 : tie.Need-returns-2
 unfolding meaning simples steps
@@ -70,11 +70,11 @@ returns-2 c = operated-is (c .before .before .before .before .before .args .text
 
 returns-3 : tie.Need-returns-3
 unfolding meaning simples steps
-returns-3 c = operated-is (c .before .before .before .before .before .args .text .now) (row-of-kind (c .before .before .before .before .before .args .n) (c .before .before .before .row-at .result) (drop (c .before .before .before .before .before .args .c .at) (c .before .before .before .before .before .args .text .now)) (c .before .before .before .row-at .ensures) (c .before .match .keys2)) (le-refl _) (c .special-type .result) (c .special-type .ensures)
+returns-3 c = operated-is (c .before .before .before .before .before .args .text .now) (row-of-kind (c .before .before .before .before .before .args .n) (c .before .before .before .row-at .result) (drop (c .before .before .before .before .before .args .c .at) (c .before .before .before .before .before .args .text .now)) (c .before .before .before .row-at .ensures) (c .before .match .keys2) ∙ special-rows (drop (c .before .before .before .before .before .args .c .at) (c .before .before .before .before .before .args .text .now))) (le-refl _) (c .choose-then .result) (c .choose-then .ensures)
 
 returns-4 : tie.Need-returns-4
 unfolding meaning simples steps
-returns-4 c = operated-is (c .before .before .before .before .before .args .text .now) (row-of-kind (c .before .before .before .before .before .args .n) (c .before .before .before .row-at .result) (drop (c .before .before .before .before .before .args .c .at) (c .before .before .before .before .before .args .text .now)) (c .before .before .before .row-at .ensures) (c .before .match .keys3)) (le-refl _) (c .async-type .result) (c .async-type .ensures)
+returns-4 c = operated-is (c .before .before .before .before .before .args .text .now) (row-of-kind (c .before .before .before .before .before .args .n) (c .before .before .before .row-at .result) (drop (c .before .before .before .before .before .args .c .at) (c .before .before .before .before .before .args .text .now)) (c .before .before .before .row-at .ensures) (c .before .match .keys3) ∙ async-rows (drop (c .before .before .before .before .before .args .c .at) (c .before .before .before .before .before .args .text .now))) (le-refl _) (c .choose .result) (c .choose .ensures)
 
 returns-5 : tie.Need-returns-5
 unfolding meaning simples steps
@@ -98,15 +98,15 @@ returns-9 c = operated-is (c .before .before .before .before .before .args .text
 
 returns-10 : tie.Need-returns-10
 unfolding meaning simples steps
-returns-10 c = operated-is (c .before .before .before .before .before .args .text .now) (row-of-kind (c .before .before .before .before .before .args .n) (c .before .before .before .row-at .result) (drop (c .before .before .before .before .before .args .c .at) (c .before .before .before .before .before .args .text .now)) (c .before .before .before .row-at .ensures) (c .before .match .keys9)) (le-refl _) (c .function-entity .result) (c .function-entity .ensures)
+returns-10 c = operated-is (c .before .before .before .before .before .args .text .now) (row-of-kind (c .before .before .before .before .before .args .n) (c .before .before .before .row-at .result) (drop (c .before .before .before .before .before .args .c .at) (c .before .before .before .before .before .args .text .now)) (c .before .before .before .row-at .ensures) (c .before .match .keys9) ∙ function-rows (drop (c .before .before .before .before .before .args .c .at) (c .before .before .before .before .before .args .text .now))) (le-refl _) (c .choose2 .result) (c .choose2 .ensures)
 
 returns-11 : tie.Need-returns-11
 unfolding meaning simples steps
-returns-11 c = operated-is (c .before .before .before .before .before .args .text .now) (row-of-kind (c .before .before .before .before .before .args .n) (c .before .before .before .row-at .result) (drop (c .before .before .before .before .before .args .c .at) (c .before .before .before .before .before .args .text .now)) (c .before .before .before .row-at .ensures) (c .before .match .keys10)) (le-refl _) (c .metatype-record .result) (c .metatype-record .ensures)
+returns-11 c = operated-is (c .before .before .before .before .before .args .text .now) (row-of-kind (c .before .before .before .before .before .args .n) (c .before .before .before .row-at .result) (drop (c .before .before .before .before .before .args .c .at) (c .before .before .before .before .before .args .text .now)) (c .before .before .before .row-at .ensures) (c .before .match .keys10) ∙ metatype-rows (drop (c .before .before .before .before .before .args .c .at) (c .before .before .before .before .before .args .text .now))) (le-refl _) (c .choose-then2 .result) (c .choose-then2 .ensures)
 
 returns-12 : tie.Need-returns-12
 unfolding meaning simples steps
-returns-12 c = operated-is (c .before .before .before .before .before .args .text .now) (row-of-kind (c .before .before .before .before .before .args .n) (c .before .before .before .row-at .result) (drop (c .before .before .before .before .before .args .c .at) (c .before .before .before .before .before .args .text .now)) (c .before .before .before .row-at .ensures) (c .before .match .keys11)) (le-refl _) (c .witness .result) (c .witness .ensures)
+returns-12 c = operated-is (c .before .before .before .before .before .args .text .now) (row-of-kind (c .before .before .before .before .before .args .n) (c .before .before .before .row-at .result) (drop (c .before .before .before .before .before .args .c .at) (c .before .before .before .before .before .args .text .now)) (c .before .before .before .row-at .ensures) (c .before .match .keys11) ∙ witness-rows (drop (c .before .before .before .before .before .args .c .at) (c .before .before .before .before .before .args .text .now))) (le-refl _) (c .choose-then3 .result) (c .choose-then3 .ensures)
 
 returns-13 : tie.Need-returns-13
 unfolding meaning simples steps
@@ -120,7 +120,7 @@ returns-14 c =
     let l = c .before .before .before .row-at .ensures .first (c .before .before .before .before .before .pre .1 .0) (c .before .before .if1 .left) in
     let p = passed-from (c .before .before .before .row-at .result .kind) 41 12 l (c .before .match .rest) in
     let e : c .before .before .before .row-at .result .kind ≡ 53 = omega arith in
-    operated-is (c .before .before .before .before .before .args .text .now) (row-of-kind (c .before .before .before .before .before .args .n) (c .before .before .before .row-at .result) (drop (c .before .before .before .before .before .args .c .at) (c .before .before .before .before .before .args .text .now)) (c .before .before .before .row-at .ensures) e) (le-refl _) (c .thunk .result) (c .thunk .ensures)
+    operated-is (c .before .before .before .before .before .args .text .now) (row-of-kind (c .before .before .before .before .before .args .n) (c .before .before .before .row-at .result) (drop (c .before .before .before .before .before .args .c .at) (c .before .before .before .before .before .args .text .now)) (c .before .before .before .row-at .ensures) e ∙ thunk-rows (drop (c .before .before .before .before .before .args .c .at) (c .before .before .before .before .before .args .text .now))) (le-refl _) (c .choose-then4 .result) (c .choose-then4 .ensures)
 
 pub first-row-spec : {M : Type 1} → statement M
 first-row-spec =
@@ -130,18 +130,18 @@ first-row-spec =
     simple-requires
     returns
     standard-requires
-    special-type-requires
-    async-type-requires
+    choose-then-requires
+    choose-requires
     generic-param-requires
     archetype-requires
     requirement-requires
     generic-signature-requires
     variable-requires
-    function-entity-requires
-    metatype-record-requires
-    witness-requires
+    choose-requires-2
+    choose-then-requires-2
+    choose-then-requires-3
     value-witness-requires
-    thunk-requires
+    choose-then-requires-4
     returns-2
     returns-3
     returns-4

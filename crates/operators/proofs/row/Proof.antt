@@ -5,7 +5,7 @@ use lib.ListN.{drop}
 use Rattle.definition.specs.Text.{Lex}
 use Rattle.definition.specs.Operators.{Operator}
 use Rattle.operators.specs.Tables.{meaning, simples, steps}
-use Rattle.operators.proofs.Choices.{operated-is, row-step, row-of-kind, row-kinds-below}
+use Rattle.operators.proofs.Choices.{operated-is, row-step, row-of-kind, row-kinds-below, context-rows, field-rows}
 use borrow.Author.Needs.{needs}
 use native.Mathlib.Omega.{arith}
 use Rattle.operators.proofs.row.Statement.{statement}
@@ -27,11 +27,11 @@ returns c = record {
 any-byte-requires : tie.Need-any-byte-requires
 any-byte-requires c κs = search needs
 
-context-descriptor-requires : tie.Need-context-descriptor-requires
-context-descriptor-requires c κs = search needs
+choose-requires : tie.Need-choose-requires
+choose-requires c κs = search needs
 
-field-offset-requires : tie.Need-field-offset-requires
-field-offset-requires c κs = search needs
+choose-requires-2 : tie.Need-choose-requires-2
+choose-requires-2 c κs = search needs
 
 suspend-resume-requires : tie.Need-suspend-resume-requires
 suspend-resume-requires c κs = search needs
@@ -42,11 +42,11 @@ returns-2 c = operated-is (c .before .before .before .before .before .args .text
 
 returns-3 : tie.Need-returns-3
 unfolding meaning simples steps
-returns-3 c = operated-is (c .before .before .before .before .before .args .text .now) (row-of-kind (c .before .before .before .before .before .args .n) (c .before .before .before .row-at .result) (drop (c .before .before .before .before .before .args .c .at) (c .before .before .before .before .before .args .text .now)) (c .before .before .before .row-at .ensures) (c .before .match .keys2)) (le-refl _) (c .context-descriptor .result) (c .context-descriptor .ensures)
+returns-3 c = operated-is (c .before .before .before .before .before .args .text .now) (row-of-kind (c .before .before .before .before .before .args .n) (c .before .before .before .row-at .result) (drop (c .before .before .before .before .before .args .c .at) (c .before .before .before .before .before .args .text .now)) (c .before .before .before .row-at .ensures) (c .before .match .keys2) ∙ context-rows (drop (c .before .before .before .before .before .args .c .at) (c .before .before .before .before .before .args .text .now))) (le-refl _) (c .choose .result) (c .choose .ensures)
 
 returns-4 : tie.Need-returns-4
 unfolding meaning simples steps
-returns-4 c = operated-is (c .before .before .before .before .before .args .text .now) (row-of-kind (c .before .before .before .before .before .args .n) (c .before .before .before .row-at .result) (drop (c .before .before .before .before .before .args .c .at) (c .before .before .before .before .before .args .text .now)) (c .before .before .before .row-at .ensures) (c .before .match .keys3)) (le-refl _) (c .field-offset .result) (c .field-offset .ensures)
+returns-4 c = operated-is (c .before .before .before .before .before .args .text .now) (row-of-kind (c .before .before .before .before .before .args .n) (c .before .before .before .row-at .result) (drop (c .before .before .before .before .before .args .c .at) (c .before .before .before .before .before .args .text .now)) (c .before .before .before .row-at .ensures) (c .before .match .keys3) ∙ field-rows (drop (c .before .before .before .before .before .args .c .at) (c .before .before .before .before .before .args .text .now))) (le-refl _) (c .choose2 .result) (c .choose2 .ensures)
 
 returns-5 : tie.Need-returns-5
 unfolding meaning simples steps
@@ -67,8 +67,8 @@ row-spec =
     simple-requires
     returns
     any-byte-requires
-    context-descriptor-requires
-    field-offset-requires
+    choose-requires
+    choose-requires-2
     suspend-resume-requires
     returns-2
     returns-3
