@@ -4,11 +4,11 @@ ghost use Rattle.words.specs.Table.{Fitting};
 // Runs the readers of bytes on the lines of standard input. A line is a letter, which says the reader, and the text that it is
 // given; what it answers is a line of standard output: the values and the next place, or `!` and the number of the refusal.
 use definition::Refusal;
+use symbols::Symbol;
 use text::Cursor;
-use text::IllFormed;
 use text::Number;
 use text::ParamRead;
-use text::Symbol;
+use utf8::IllFormed;
 use words::CountRead;
 use words::NameRead;
 use words::Words;
@@ -191,8 +191,8 @@ fn run(c: u8, text: &[u8]) {
         b'i' => show_number(text::index(text, from)),
         b'j' => show_number(text::index_plus_one(text, from)),
         b'g' => show_param(text::generic_param_index(text, from)),
-        b'u' => show_ill_formed(text::ill_formed(text)),
-        b's' => show_symbol(text::split(text)),
+        b'u' => show_ill_formed(utf8::ill_formed(text)),
+        b's' => show_symbol(symbols::split(text)),
         b'w' | b'p' | b'c' => run_words(c, text),
         _ => {
             io::write_all(1, b"?");

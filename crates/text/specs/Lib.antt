@@ -1,3 +1,1 @@
 pub mod Cursor
-pub mod Utf8
-pub mod Symbol

@@ -17,7 +17,7 @@ use text::Number;
 use text::is_digit;
 use text::natural;
 use text::next_if;
-use text::well_formed;
+use utf8::well_formed;
 
 // The words: where each starts in the text, and how long it is.
 pub struct Words {

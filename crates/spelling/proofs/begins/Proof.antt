@@ -3,7 +3,7 @@ use mathlib.Core.Path.{refl, sym, _∙_}
 use Prim.Native.Nat.{_-_}
 use native.Mathlib.Omega.{arith}
 use lib.ListN.{length}
-use Rattle.text.proofs.Parts.{Agrees, begins-more, begins-other, begins-short, begins-all}
+use Rattle.symbols.proofs.Parts.{Agrees, begins-more, begins-other, begins-short, begins-all}
 use Rattle.spelling.proofs.begins.Statement.{statement}
 use Rattle.spelling.proofs.begins.Tie as tie
 

@@ -1,0 +1,94 @@
+// The parts of a symbol: prefix, body and suffix.
+ghost use mathlib.Core.Path.{_≡_};
+ghost use Prim.Native.Nat.{ℕ, _≤_};
+ghost use lib.ListN.{length, take, drop};
+ghost use Rattle.definition.specs.Base.{same};
+ghost use Rattle.definition.specs.Text as Text;
+ghost use Rattle.symbols.specs.Symbol.{PrefixIs, Ends, SplitIs};
+
+// The length of the prefix.
+pub enum Prefixed {
+    By(usize),
+    Not,
+}
+
+// A symbol's body is text[start..end], its suffix text[end..].
+pub enum Symbol {
+    Parts { start: usize, end: usize },
+    Not,
+}
+
+// Whether the text begins with these bytes.
+fn starts_with(text: &[u8], front: &[u8]) -> bool
+    ensures { λ r. ⌜ r ≡ same (now (front .entry)) (take (length (now (front .entry))) (now (text .entry))) ⌝ }
+{
+    let mut i = 0;
+    while i < front.len() {
+        if text.len() <= i {
+            return false;
+        }
+        if text[i] != front[i] {
+            return false;
+        }
+        i += 1;
+    }
+    true
+}
+
+// The first of the four prefixes that the text begins with.
+pub fn prefix(text: &[u8]) -> Prefixed
+    ensures { λ r. ⌜ PrefixIs (Text.prefix-of Text.prefixes (now (text .entry))) r ⌝ }
+{
+    if starts_with(text, b"_$s") {
+        return Prefixed::By(3);
+    }
+    if starts_with(text, b"$s") {
+        return Prefixed::By(2);
+    }
+    if starts_with(text, b"_$S") {
+        return Prefixed::By(3);
+    }
+    if starts_with(text, b"$S") {
+        return Prefixed::By(2);
+    }
+    Prefixed::Not
+}
+
+// The place of the first dot, or the end.
+fn dot(text: &[u8], from: usize) -> usize
+    requires { ⌜ from ≤ length (now text) ⌝ }
+    ensures { λ r. ⌜ Ends (now (text .entry)) from r ⌝ }
+{
+    let mut at = from;
+    while at < text.len() {
+        if text[at] == b'.' {
+            return at;
+        }
+        at += 1;
+    }
+    at
+}
+
+// The parts of a symbol whose prefix ends at start.
+fn split_at(text: &[u8], start: usize) -> Symbol
+    ensures { λ r. ⌜ SplitIs (Text.split-at start (drop start (now (text .entry)))) (now (text .entry)) r ⌝ }
+{
+    if start < text.len() {
+        let end = dot(text, start);
+        return Symbol::Parts {
+            start: start,
+            end: end,
+        };
+    }
+    Symbol::Not
+}
+
+// A symbol's parts: a prefix, at least one byte after it, and a body that ends before the first dot.
+pub fn split(text: &[u8]) -> Symbol
+    ensures { λ r. ⌜ SplitIs (Text.split (now (text .entry))) (now (text .entry)) r ⌝ }
+{
+    match prefix(text) {
+        Prefixed::By(start) => split_at(text, start),
+        Prefixed::Not => Symbol::Not,
+    }
+}

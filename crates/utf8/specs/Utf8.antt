@@ -1,0 +1,40 @@
+-- What an answer about UTF-8 says of the definition (RFC 3629). Assumes nothing.
+use mathlib.Core.Path.{_≡_}
+use mathlib.Core.Option.{Option, some, none}
+use mathlib.Core.List.{List}
+use Prim.Native.Nat.{ℕ, _≤_, _<_}
+use lib.ListN.{length, getD, drop}
+use Rattle.definition.specs.Text.{Text, Row, row, rows, second, by-row}
+use Rattle.utf8.specs.declared.RowFound.{RowFound}
+use Rattle.utf8.specs.declared.RowFound.the-variants as RowFound
+use Rattle.utf8.specs.declared.Behind.{Behind}
+use Rattle.utf8.specs.declared.Behind.the-variants as Behind
+use Rattle.utf8.specs.declared.IllFormed.{IllFormed}
+use Rattle.utf8.specs.declared.IllFormed.the-variants as IllFormed
+
+-- row i of a table; past its end, a row of zeros
+abbrev pub row-at : List Row → ℕ → Row
+row-at rs i = getD rs i (row 0 0 0 0 0)
+
+-- b is a first byte of row i, and of no row before it
+pub record Begins (b i : ℕ) : Type 0 where
+  pub below : i < 8
+  pub is : (t : Text) → by-row b rows t ≡ second (row-at rows i) t
+
+abbrev pub RowIs : ℕ → RowFound → Type 0
+RowIs b (RowFound.Row i) = Begins b i
+RowIs b RowFound.Nothing = (t : Text) → by-row b rows t ≡ none
+
+-- the outcome is the text from next on, which lies at `least` or later
+pub record Follows (out : Option Text) (text : Text) (least next : ℕ) : Type 0 where
+  pub is : out ≡ some (drop next text)
+  pub inside : next ≤ length text
+  pub onward : least ≤ next
+
+abbrev pub Passed : Option Text → Text → ℕ → Behind → Type 0
+Passed out text least (Behind.At next) = Follows out text least next
+Passed out text least Behind.Broken = out ≡ none
+
+abbrev pub Placed : Option ℕ → IllFormed → Type 0
+Placed out (IllFormed.At i) = out ≡ some i
+Placed out IllFormed.Nowhere = out ≡ none

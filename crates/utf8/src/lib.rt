@@ -1,0 +1,159 @@
+// UTF-8.
+ghost use mathlib.Core.Path.{_≡_};
+ghost use Prim.Native.Nat.{ℕ, _+_, _-_, _≤_, _<_};
+ghost use lib.ListN.{length, getD, take, drop};
+ghost use Rattle.definition.specs.Text as Text;
+ghost use Rattle.definition.specs.Text.{rows};
+ghost use Rattle.utf8.specs.Utf8.{RowIs, Passed, Placed, row-at};
+
+// The place of the first ill-formed sequence.
+pub enum IllFormed {
+    At(usize),
+    Nowhere,
+}
+
+// The number of a row of the UTF-8 table.
+enum RowFound {
+    Row(usize),
+    Nothing,
+}
+
+// The place behind what was read.
+enum Behind {
+    At(usize),
+    Broken,
+}
+
+// The rows of RFC 3629, section 4: the first byte lies between FIRST and LAST, the second between LOW and HIGH, and then
+// come MORE bytes of 80 to BF.
+const FIRST: [u8; 8] = [0xC2, 0xE0, 0xE1, 0xED, 0xEE, 0xF0, 0xF1, 0xF4];
+
+const LAST: [u8; 8] = [0xDF, 0xE0, 0xEC, 0xED, 0xEF, 0xF0, 0xF3, 0xF4];
+
+const LOW: [u8; 8] = [0x80, 0xA0, 0x80, 0x80, 0x80, 0x90, 0x80, 0x80];
+
+const HIGH: [u8; 8] = [0xBF, 0xBF, 0xBF, 0x9F, 0xBF, 0xBF, 0xBF, 0x8F];
+
+const MORE: [usize; 8] = [0, 1, 1, 1, 1, 2, 2, 2];
+
+// Whether b lies between low and high, both included.
+fn between(low: u8, high: u8, b: u8) -> bool
+    ensures { λ r. ⌜ r ≡ Text.between low high b ⌝ }
+{
+    if b < low {
+        return false;
+    }
+    b <= high
+}
+
+// Whether b is a first byte of row i.
+fn begins(b: u8, i: usize) -> bool
+    requires { ⌜ i < 8 ⌝ }
+    ensures { λ r. ⌜ r ≡ Text.between (row-at rows i .first) (row-at rows i .last) b ⌝ }
+{
+    between(FIRST[i], LAST[i], b)
+}
+
+// Whether b is a second byte of row i.
+fn continues(b: u8, i: usize) -> bool
+    requires { ⌜ i < 8 ⌝ }
+    ensures { λ r. ⌜ r ≡ Text.between (row-at rows i .low) (row-at rows i .high) b ⌝ }
+{
+    between(LOW[i], HIGH[i], b)
+}
+
+// How many bytes follow the second of row i.
+fn more(i: usize) -> usize
+    requires { ⌜ i < 8 ⌝ }
+    ensures { λ r. ⌜ r ≡ row-at rows i .more ⌝ }
+{
+    MORE[i]
+}
+
+// The row that b begins.
+fn row_of(b: u8) -> RowFound
+    ensures { λ r. ⌜ RowIs b r ⌝ }
+{
+    let mut i = 0;
+    while i < 8 {
+        if begins(b, i) {
+            return RowFound::Row(i);
+        }
+        i += 1;
+    }
+    RowFound::Nothing
+}
+
+// The place behind n bytes of 80 to BF.
+fn tails(text: &[u8], from: usize, n: usize) -> Behind
+    requires { ⌜ from ≤ length (now text) ⌝ }
+    ensures { λ r. ⌜ Passed (Text.tails n (drop from (now (text .entry)))) (now (text .entry)) from r ⌝ }
+{
+    let mut at = from;
+    let mut left = n;
+    while 0 < left {
+        if text.len() <= at {
+            return Behind::Broken;
+        }
+        if !between(0x80, 0xBF, text[at]) {
+            return Behind::Broken;
+        }
+        at += 1;
+        left -= 1;
+    }
+    Behind::At(at)
+}
+
+// The place behind the bytes after the first, by row i.
+fn second(text: &[u8], at: usize, i: usize) -> Behind
+    requires { ⌜ i < 8 ⌝ }
+    ensures { λ r. ⌜ Passed (Text.second (row-at rows i) (drop at (now (text .entry)))) (now (text .entry)) at r ⌝ }
+{
+    if text.len() <= at {
+        return Behind::Broken;
+    }
+    if continues(text[at], i) {
+        return tails(text, at + 1, more(i));
+    }
+    Behind::Broken
+}
+
+// The place behind the character at a place.
+fn character(text: &[u8], at: usize) -> Behind
+    requires { ⌜ at < length (now text) ⌝ }
+    ensures { λ r. ⌜ Passed (Text.character (getD (now (text .entry)) at 0) (drop (at + 1) (now (text .entry)))) (now (text .entry)) (at + 1) r ⌝ }
+{
+    let b = text[at];
+    if b < 0x80 {
+        return Behind::At(at + 1);
+    }
+    match row_of(b) {
+        RowFound::Row(i) => second(text, at + 1, i),
+        RowFound::Nothing => Behind::Broken,
+    }
+}
+
+// The place of the first ill-formed sequence.
+pub fn ill_formed(text: &[u8]) -> IllFormed
+    ensures { λ r. ⌜ Placed (Text.ill-formed (now (text .entry))) r ⌝ }
+{
+    let mut at = 0;
+    while at < text.len() {
+        let Behind::At(next) = character(text, at) else {
+            return IllFormed::At(at);
+        };
+        at = next;
+    }
+    IllFormed::Nowhere
+}
+
+// Whether text[from..to] is well-formed.
+pub fn well_formed(text: &[u8], from: usize, to: usize) -> bool
+    requires { ⌜ (from ≤ to) × (to ≤ length (now text)) ⌝ }
+    ensures { λ r. ⌜ r ≡ Text.well-formed (take (to - from) (drop from (now (text .entry)))) ⌝ }
+{
+    match ill_formed(&text[from..to]) {
+        IllFormed::At(_) => false,
+        IllFormed::Nowhere => true,
+    }
+}
