@@ -32,12 +32,12 @@ use Rattle.entries.specs.declared.State.{State}
 use Rattle.entries.specs.declared.Taken.{Taken}
 use Rattle.entries.specs.declared.Taking.{Taking}
 use Rattle.entries.specs.declared.Taking.the-variants as Taking
-use Rattle.shape.specs.Table.{kinds, own, counted, row-takes, row-leaves, copies-of, row-of, times-of}
+use Rattle.rows.specs.Table.{kinds, own, counted, row-takes, row-leaves, copies-of, row-of, times-of}
 use Rattle.shape.specs.Performs.{Light, RowWent, RowRefused, RowTaking, Outside, Wrote, Failed, Performing, Remembered, LeftBy, put, recall-copies, Puts, Roomy, Sound}
-use Rattle.shape.proofs.Rows.{row-is}
+use Rattle.rows.proofs.Rows.{row-is}
 use Rattle.shape.proofs.Stores.{outside-both, outside-none}
-use Rattle.shape.specs.declared.Copies.{Copies}
-use Rattle.shape.specs.declared.Copies.the-variants as Copies
+use Rattle.rows.specs.declared.Copies.{Copies}
+use Rattle.rows.specs.declared.Copies.the-variants as Copies
 use Rattle.shape.specs.declared.Step.{Step}
 use Rattle.shape.specs.declared.Step.the-variants as Step
 

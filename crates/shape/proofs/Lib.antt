@@ -1,5 +1,3 @@
-pub mod Rows
-pub mod Indices
 pub mod RowTakes
 pub mod Stores
 pub mod Leaves

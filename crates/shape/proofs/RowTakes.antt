@@ -24,7 +24,7 @@ use Rattle.entries.specs.declared.Taken.{Taken}
 use Rattle.entries.specs.declared.Take.{Take}
 use Rattle.entries.specs.declared.Taking.{Taking}
 use Rattle.entries.specs.declared.Taking.the-variants as Taking
-use Rattle.shape.specs.Table.{takes, decoded, code-at, unless-ended, takes-from, row-takes}
+use Rattle.rows.specs.Table.{takes, decoded, code-at, unless-ended, takes-from, row-takes}
 use Rattle.shape.specs.Performs.{Light, RowWent, RowRefused}
 
 -- THE TABLE: a list is never counted on from an entry's count

@@ -23,8 +23,8 @@ use Rattle.entries.specs.declared.Taking.{Taking}
 use Rattle.entries.specs.declared.Taking.the-variants as Taking
 use Rattle.shape.specs.declared.Step.{Step}
 use Rattle.shape.specs.declared.Step.the-variants as Step
-use Rattle.shape.specs.declared.Copies.{Copies}
-use Rattle.shape.specs.Table.{row-takes, row-leaves, copies-of}
+use Rattle.rows.specs.declared.Copies.{Copies}
+use Rattle.rows.specs.Table.{row-takes, row-leaves, copies-of}
 
 -- there is room to add up all that lies on the stack
 pub record Light (w : List ℕ) (st : State) : Type 0 where

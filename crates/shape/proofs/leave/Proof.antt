@@ -1,6 +1,6 @@
 -- `shape::leave` meets its contract. Assumes nothing.
 use mathlib.Core.Path.{sym, _∙_}
-use Rattle.shape.specs.Table.{row-leaves}
+use Rattle.rows.specs.Table.{row-leaves}
 use Rattle.shape.proofs.Leaves.{puts-after, left-plain, left-remembered}
 use borrow.Author.Needs.{needs}
 use Rattle.shape.proofs.leave.Statement.{statement}

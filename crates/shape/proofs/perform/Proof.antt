@@ -2,7 +2,7 @@
 use mathlib.Core.Path.{sym, subst}
 use Prim.Native.Nat.{ℕ, _<_}
 use native.Mathlib.Omega.{arith}
-use Rattle.shape.proofs.Indices.{row-below}
+use Rattle.rows.proofs.Indices.{row-below}
 use Rattle.shape.proofs.Leaves.{sound-light, sound-roomy, roomy-after, performed, not-performed, row-went, row-refused}
 use borrow.Author.Needs.{needs}
 use Rattle.shape.proofs.perform.Statement.{statement}

@@ -7,7 +7,7 @@ use native.Mathlib.Omega.{arith}
 use borrow.Author.Needs.{needs}
 use Rattle.definition.specs.Shape as C
 use Rattle.entries.specs.Step.{take-of}
-use Rattle.shape.specs.Table.{takes-from, decoded}
+use Rattle.rows.specs.Table.{takes-from, decoded}
 use Rattle.shape.proofs.RowTakes.{code-small, Rowed, row-start, rest-all, rest-none, rest-ended, rest-more, row-ended, row-ready, row-more, row-fails, takes-went, takes-refused}
 use Rattle.shape.proofs.take_row.Statement.{statement}
 use Rattle.shape.proofs.take_row.Tie as tie

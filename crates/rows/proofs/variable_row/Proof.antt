@@ -1,9 +1,9 @@
--- `shape::variable_row` meets its contract. Assumes nothing.
+-- `rows::variable_row` meets its contract. Assumes nothing.
 use native.Mathlib.Omega.{arith}
-use Rattle.shape.proofs.Indices.{accessor-small}
+use Rattle.rows.proofs.Indices.{accessor-small}
 use borrow.Author.Needs.{needs}
-use Rattle.shape.proofs.variable_row.Statement.{statement}
-use Rattle.shape.proofs.variable_row.Tie as tie
+use Rattle.rows.proofs.variable_row.Statement.{statement}
+use Rattle.rows.proofs.variable_row.Tie as tie
 
 accessor-index-requires : tie.Need-accessor-index-requires
 accessor-index-requires c κs = search needs

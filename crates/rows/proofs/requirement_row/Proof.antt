@@ -1,9 +1,9 @@
--- `shape::requirement_row` meets its contract. Assumes nothing.
+-- `rows::requirement_row` meets its contract. Assumes nothing.
 use native.Mathlib.Omega.{arith}
-use Rattle.shape.proofs.Indices.{subject-small, constraint-small}
+use Rattle.rows.proofs.Indices.{subject-small, constraint-small}
 use borrow.Author.Needs.{needs}
-use Rattle.shape.proofs.requirement_row.Statement.{statement}
-use Rattle.shape.proofs.requirement_row.Tie as tie
+use Rattle.rows.proofs.requirement_row.Statement.{statement}
+use Rattle.rows.proofs.requirement_row.Tie as tie
 
 subject-index-requires : tie.Need-subject-index-requires
 subject-index-requires c κs = search needs

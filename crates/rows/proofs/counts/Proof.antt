@@ -1,7 +1,7 @@
--- `shape::counts` meets its contract. Assumes nothing.
+-- `rows::counts` meets its contract. Assumes nothing.
 use borrow.Author.Needs.{needs}
-use Rattle.shape.proofs.counts.Statement.{statement}
-use Rattle.shape.proofs.counts.Tie as tie
+use Rattle.rows.proofs.counts.Statement.{statement}
+use Rattle.rows.proofs.counts.Tie as tie
 
 array-read-result : tie.Need-array-read-result
 array-read-result c = search needs

@@ -1,11 +1,11 @@
--- `shape::leaf_row` meets its contract. Assumes nothing.
+-- `rows::leaf_row` meets its contract. Assumes nothing.
 use mathlib.Core.Path.{refl, sym, ap, _∙_}
 use Prim.Native.Nat.{ℕ, _+_}
 use native.Mathlib.Omega.{arith}
-use Rattle.shape.proofs.Indices.{nominal-small}
+use Rattle.rows.proofs.Indices.{nominal-small}
 use borrow.Author.Needs.{needs}
-use Rattle.shape.proofs.leaf_row.Statement.{statement}
-use Rattle.shape.proofs.leaf_row.Tie as tie
+use Rattle.rows.proofs.leaf_row.Statement.{statement}
+use Rattle.rows.proofs.leaf_row.Tie as tie
 
 enum-told : tie.Need-enum-told
 enum-told c = search needs

@@ -1,9 +1,9 @@
--- `shape::record_row` meets its contract. Assumes nothing.
+-- `rows::record_row` meets its contract. Assumes nothing.
 use native.Mathlib.Omega.{arith}
-use Rattle.shape.proofs.Indices.{about-small}
+use Rattle.rows.proofs.Indices.{about-small}
 use borrow.Author.Needs.{needs}
-use Rattle.shape.proofs.record_row.Statement.{statement}
-use Rattle.shape.proofs.record_row.Tie as tie
+use Rattle.rows.proofs.record_row.Statement.{statement}
+use Rattle.rows.proofs.record_row.Tie as tie
 
 about-index-requires : tie.Need-about-index-requires
 about-index-requires c κs = search needs

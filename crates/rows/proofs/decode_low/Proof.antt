@@ -1,9 +1,9 @@
--- `shape::decode_low` meets its contract. Assumes nothing.
+-- `rows::decode_low` meets its contract. Assumes nothing.
 use mathlib.Core.Path.{_≡_}
 use native.Mathlib.Omega.{arith}
-use Rattle.shape.specs.Table.{decoded}
-use Rattle.shape.proofs.decode_low.Statement.{statement}
-use Rattle.shape.proofs.decode_low.Tie as tie
+use Rattle.rows.specs.Table.{decoded}
+use Rattle.rows.proofs.decode_low.Statement.{statement}
+use Rattle.rows.proofs.decode_low.Tie as tie
 
 returns : tie.Need-returns
 unfolding decoded

@@ -1,7 +1,7 @@
--- `shape::times_of` meets its contract. Assumes nothing.
+-- `rows::times_of` meets its contract. Assumes nothing.
 use borrow.Author.Needs.{needs}
-use Rattle.shape.proofs.times_of.Statement.{statement}
-use Rattle.shape.proofs.times_of.Tie as tie
+use Rattle.rows.proofs.times_of.Statement.{statement}
+use Rattle.rows.proofs.times_of.Tie as tie
 
 enum-told : tie.Need-enum-told
 enum-told c = search needs

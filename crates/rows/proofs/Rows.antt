@@ -20,9 +20,9 @@ use Rattle.definition.specs.declared.Accessor.the-variants as Accessor
 use Rattle.definition.specs.declared.About.the-variants as About
 use Rattle.definition.specs.declared.Operator.{Operator}
 use Rattle.definition.specs.declared.Operator.the-variants as Operator
-use Rattle.shape.specs.Table.{decoded, code-at, takes-from, row-takes, row-leaves, copies-of, row-of, leaf-row, times-of, subject-index, constraint-index}
-use Rattle.shape.specs.declared.Copies.{Copies}
-use Rattle.shape.specs.declared.Copies.the-variants as Copies
+use Rattle.rows.specs.Table.{decoded, code-at, takes-from, row-takes, row-leaves, copies-of, row-of, leaf-row, times-of, subject-index, constraint-index}
+use Rattle.rows.specs.declared.Copies.{Copies}
+use Rattle.rows.specs.declared.Copies.the-variants as Copies
 
 abbrev rule-of : ℕ → Copies → C.Row
 rule-of r c = C.rule (row-takes r) (row-leaves r c)

@@ -1,9 +1,9 @@
--- `shape::code` meets its contract. Assumes nothing.
+-- `rows::code` meets its contract. Assumes nothing.
 use mathlib.Core.Path.{refl}
 use borrow.Author.Needs.{needs}
-use Rattle.shape.specs.Table.{code-at}
-use Rattle.shape.proofs.code.Statement.{statement}
-use Rattle.shape.proofs.code.Tie as tie
+use Rattle.rows.specs.Table.{code-at}
+use Rattle.rows.proofs.code.Statement.{statement}
+use Rattle.rows.proofs.code.Tie as tie
 
 array-read-result : tie.Need-array-read-result
 array-read-result c = search needs

@@ -16,7 +16,7 @@ use Rattle.definition.specs.declared.About.{About}
 use Rattle.definition.specs.declared.About.the-variants as About
 use Rattle.definition.specs.declared.Operator.{Operator}
 use Rattle.definition.specs.declared.Operator.the-variants as Operator
-use Rattle.shape.specs.Table.{nominal-index, leaf-row, subject-index, constraint-index, accessor-index, about-index, row-of}
+use Rattle.rows.specs.Table.{nominal-index, leaf-row, subject-index, constraint-index, accessor-index, about-index, row-of}
 
 pub nominal-small : (k : NominalKind) → nominal-index k ≤ 4
 nominal-small NominalKind.Class = omega arith

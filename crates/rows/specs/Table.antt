@@ -25,8 +25,8 @@ use Rattle.entries.specs.Step.{take-of}
 use Rattle.kinds.specs.declared.Want.the-variants as Want
 use Rattle.entries.specs.declared.Take.{Take}
 use Rattle.entries.specs.declared.Take.the-variants as Take
-use Rattle.shape.specs.declared.Copies.{Copies}
-use Rattle.shape.specs.declared.Copies.the-variants as Copies
+use Rattle.rows.specs.declared.Copies.{Copies}
+use Rattle.rows.specs.declared.Copies.the-variants as Copies
 
 -- the takes by code; 0 ends a row
 abbrev pub by-code : List Take

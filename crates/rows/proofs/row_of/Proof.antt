@@ -1,8 +1,8 @@
--- `shape::row_of` meets its contract. Assumes nothing.
+-- `rows::row_of` meets its contract. Assumes nothing.
 use mathlib.Core.Path.{refl, sym, _∙_}
 use borrow.Author.Needs.{needs}
-use Rattle.shape.proofs.row_of.Statement.{statement}
-use Rattle.shape.proofs.row_of.Tie as tie
+use Rattle.rows.proofs.row_of.Statement.{statement}
+use Rattle.rows.proofs.row_of.Tie as tie
 
 enum-known-op : tie.Need-enum-known-op
 enum-known-op c = search needs
