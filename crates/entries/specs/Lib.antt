@@ -1,4 +1,3 @@
 pub mod Lies
 pub mod Answers
-pub mod Takes
-pub mod Step
+pub mod Means

@@ -21,7 +21,7 @@ use Rattle.definition.specs.declared.About.{About}
 use Rattle.definition.specs.declared.About.the-variants as About
 use Rattle.definition.specs.declared.Operator.{Operator}
 use Rattle.definition.specs.declared.Operator.the-variants as Operator
-use Rattle.entries.specs.Step.{take-of}
+use Rattle.entries.specs.Means.{take-of}
 use Rattle.kinds.specs.declared.Want.the-variants as Want
 use Rattle.entries.specs.declared.Take.{Take}
 use Rattle.entries.specs.declared.Take.the-variants as Take

@@ -16,9 +16,10 @@ use Rattle.definition.specs.Enums.{number}
 use Rattle.definition.specs.declared.Refusal.{Refusal}
 use Rattle.entries.specs.Lies.{machine-of, taken-of, load, Held}
 use Rattle.entries.specs.Answers.{Refuses}
-use Rattle.entries.specs.Step.{take-of, take-step, grows, resets, Ready, Goes, Takes}
+use Rattle.entries.specs.Means.{take-of}
+use Rattle.takes.specs.Step.{take-step, grows, resets, Ready, Goes, Takes}
 use Rattle.entries.proofs.Top.{held-less}
-use Rattle.entries.proofs.OneTake.{taking-step}
+use Rattle.takes.proofs.OneTake.{taking-step}
 use Rattle.entries.specs.declared.State.{State}
 use Rattle.entries.specs.declared.Taken.{Taken}
 use Rattle.entries.specs.declared.Take.{Take}

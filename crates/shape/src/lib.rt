@@ -52,7 +52,7 @@ fn take_row(ws: &[u32], st: State, row: usize) -> Taking
             return Taking::Went(sum, left);
         }
         let t = decode(c);
-        match entries::take_one(ws, left, sum, t) {
+        match takes::take_one(ws, left, sum, t) {
             Taking::Went(b, next) => {
                 sum = b;
                 left = next;

@@ -6,7 +6,7 @@ use Prim.Native.Nat.{ℕ, _+_, _*_, _-_, _≤_}
 use native.Mathlib.Omega.{arith}
 use borrow.Author.Needs.{needs}
 use Rattle.definition.specs.Shape as C
-use Rattle.entries.specs.Step.{take-of}
+use Rattle.entries.specs.Means.{take-of}
 use Rattle.rows.specs.Table.{takes-from, decoded}
 use Rattle.shape.proofs.RowTakes.{code-small, Rowed, row-start, rest-all, rest-none, rest-ended, rest-more, row-ended, row-ready, row-more, row-fails, takes-went, takes-refused}
 use Rattle.shape.proofs.take_row.Statement.{statement}

@@ -1,0 +1,373 @@
+// What a row of the shape check takes off the stack.
+ghost use mathlib.Core.Path.{_≡_};
+ghost use mathlib.Core.Bool.{true, false};
+ghost use mathlib.Core.List.{List};
+ghost use Prim.Native.Nat.{ℕ, _+_, _^_, _≤_};
+ghost use Rattle.definition.specs.Machine as M;
+ghost use Rattle.definition.specs.Shape as C;
+ghost use Rattle.entries.specs.Lies.{entry-of, taken-of, Held};
+ghost use Rattle.kinds.specs.Wanted.{want-of};
+ghost use Rattle.entries.specs.Answers.{Moving};
+ghost use Rattle.entries.specs.Means.{take-of};
+ghost use Rattle.takes.specs.Step.{one-label, grows, kept-of, Ready, Sets, Takes};
+use budget::Spent;
+use definition::Refusal;
+use entries::Entry;
+use entries::Moved;
+use entries::Popped;
+use entries::State;
+use entries::Take;
+use entries::Taken;
+use entries::Taking;
+use entries::Tried;
+use entries::context;
+use entries::pop;
+use entries::pop_if;
+use entries::pop_name;
+use entries::protocol;
+use entries::side;
+use entries::took;
+use entries::try_take;
+use kinds::Want;
+use lists::Series;
+use lists::gather;
+
+// Labels
+
+// One label, or the marker where there is none.
+fn label(ws: &[u32], st: State) -> Moved
+    requires { ⌜ Held (now ws) st ⌝ }
+    ensures { λ r. ⌜ Moving one-label (now (ws .entry)) st r ⌝ }
+{
+    match pop(ws, st) {
+        Popped::Top(e, next) => {
+            if e.kind == 0 {
+                return Moved::To(next);
+            }
+            if e.kind == 31 {
+                return Moved::To(next);
+            }
+            Moved::Refused(Refusal::Stack)
+        }
+        Popped::Refused(r) => Moved::Refused(r),
+    }
+}
+
+// So many labels.
+fn labels(ws: &[u32], st: State, count: usize) -> Moved
+    requires { ⌜ Held (now ws) st ⌝ }
+    ensures { λ r. ⌜ Moving (C.labels-from count) (now (ws .entry)) st r ⌝ }
+{
+    let mut left = st;
+    let mut more = count;
+    while 0 < more {
+        match label(ws, left) {
+            Moved::To(next) => {
+                left = next;
+            }
+            Moved::Refused(r) => {
+                return Moved::Refused(r);
+            }
+        }
+        more -= 1;
+    }
+    Moved::To(left)
+}
+
+// Takes
+
+// One more entry.
+fn add(a: Taken, e: Entry) -> Taken
+    requires { ⌜ a .size ≤ 2 ^ 20 ⌝ }
+    ensures { λ r. ⌜ taken-of r ≡ C.add (entry-of e) (taken-of a) ⌝ }
+{
+    Taken {
+        size: e.size as usize + a.size,
+        count: a.count,
+        signed: a.signed,
+    }
+}
+
+// The parameters' side: those of a tuple are counted, else it is one.
+fn add_params(a: Taken, e: Entry) -> Taken
+    requires { ⌜ a .size ≤ 2 ^ 20 ⌝ }
+    ensures { λ r. ⌜ Sets (C.add-params (entry-of e) (taken-of a)) r ⌝ }
+{
+    let size = e.size as usize + a.size;
+    if e.kind == 9 {
+        return Taken {
+            size,
+            count: e.count as usize,
+            signed: a.signed,
+        };
+    }
+    Taken {
+        size,
+        count: 1,
+        signed: a.signed,
+    }
+}
+
+// A type: the parameters of a function type are counted.
+fn add_labelled(a: Taken, e: Entry) -> Taken
+    requires { ⌜ a .size ≤ 2 ^ 20 ⌝ }
+    ensures { λ r. ⌜ Sets (C.add-labelled (entry-of e) (taken-of a)) r ⌝ }
+{
+    let size = e.size as usize + a.size;
+    if e.kind == 10 {
+        return Taken {
+            size,
+            count: e.count as usize,
+            signed: a.signed,
+        };
+    }
+    Taken {
+        size,
+        count: 0,
+        signed: a.signed,
+    }
+}
+
+// A signature, under which the type is one node more.
+fn sign(a: Taken, e: Entry) -> Taken
+    requires { ⌜ a .size ≤ 2 ^ 20 ⌝ }
+    ensures { λ r. ⌜ taken-of r ≡ C.taken (1 + (e .size + a .size)) (a .count) true ⌝ }
+{
+    Taken {
+        size: 1 + (e.size as usize + a.size),
+        count: a.count,
+        signed: true,
+    }
+}
+
+fn kept(m: Moved, a: Taken) -> Taking
+    ensures { λ r. ⌜ r ≡ kept-of m a ⌝ }
+{
+    match m {
+        Moved::To(next) => Taking::Went(a, next),
+        Moved::Refused(r) => Taking::Refused(r),
+    }
+}
+
+// A wrap is counted.
+fn wrapped(st: State) -> Moved
+    ensures { λ r. ⌜ ((w : List ℕ) → Moving M.wrap w st r) ⌝ }
+{
+    let budget = st.budget;
+    match budget.wrap() {
+        Spent::Left(left) => Moved::To(State {
+            budget: left,
+            depth: st.depth,
+            seen: st.seen,
+            words: st.words,
+        }),
+        Spent::Refused(r) => Moved::Refused(r),
+    }
+}
+
+fn take_wraps(st: State, a: Taken) -> Taking
+    ensures { λ r. ⌜ ((w : List ℕ) → Takes C.wraps w st a r) ⌝ }
+{
+    kept(wrapped(st), a)
+}
+
+fn take_under_signature(st: State, a: Taken) -> Taking
+    ensures { λ r. ⌜ ((w : List ℕ) → Takes C.under-signature w st a r) ⌝ }
+{
+    if a.signed {
+        return kept(wrapped(st), a);
+    }
+    Taking::Went(a, st)
+}
+
+fn take_node(ws: &[u32], st: State, a: Taken, want: Want) -> Taking
+    requires { ⌜ Ready false (now ws) st a ⌝ }
+    ensures { λ r. ⌜ Takes (C.a-node (want-of want)) (now (ws .entry)) st a r ⌝ }
+{
+    match pop_if(ws, st, want) {
+        Popped::Top(e, next) => Taking::Went(add(a, e), next),
+        Popped::Refused(r) => Taking::Refused(r),
+    }
+}
+
+fn take_name(ws: &[u32], st: State, a: Taken) -> Taking
+    requires { ⌜ Ready false (now ws) st a ⌝ }
+    ensures { λ r. ⌜ Takes C.a-name (now (ws .entry)) st a r ⌝ }
+{
+    kept(pop_name(ws, st), a)
+}
+
+fn take_context(ws: &[u32], st: State, a: Taken) -> Taking
+    requires { ⌜ Ready false (now ws) st a ⌝ }
+    ensures { λ r. ⌜ Takes C.a-context (now (ws .entry)) st a r ⌝ }
+{
+    match context(ws, st) {
+        Popped::Top(e, next) => Taking::Went(add(a, e), next),
+        Popped::Refused(r) => Taking::Refused(r),
+    }
+}
+
+fn take_protocol(ws: &[u32], st: State, a: Taken) -> Taking
+    requires { ⌜ Ready false (now ws) st a ⌝ }
+    ensures { λ r. ⌜ Takes C.a-protocol (now (ws .entry)) st a r ⌝ }
+{
+    match protocol(ws, st) {
+        Popped::Top(e, next) => Taking::Went(add(a, e), next),
+        Popped::Refused(r) => Taking::Refused(r),
+    }
+}
+
+fn take_marker(ws: &[u32], st: State, a: Taken, kind: u32) -> Taking
+    requires { ⌜ Ready false (now ws) st a ⌝ }
+    ensures { λ r. ⌜ Takes (C.marker kind) (now (ws .entry)) st a r ⌝ }
+{
+    let mark = took(ws, st, Want::Kind(kind));
+    let next = mark.next;
+    Taking::Went(a, next)
+}
+
+fn take_qualifier(ws: &[u32], st: State, a: Taken) -> Taking
+    requires { ⌜ Ready false (now ws) st a ⌝ }
+    ensures { λ r. ⌜ Takes C.qualifier (now (ws .entry)) st a r ⌝ }
+{
+    let mark = took(ws, st, Want::Protocol);
+    let next = mark.next;
+    Taking::Went(a, next)
+}
+
+fn take_params(ws: &[u32], st: State, a: Taken) -> Taking
+    requires { ⌜ Ready false (now ws) st a ⌝ }
+    ensures { λ r. ⌜ Takes C.params (now (ws .entry)) st a r ⌝ }
+{
+    match side(ws, st) {
+        Popped::Top(e, next) => Taking::Went(add_params(a, e), next),
+        Popped::Refused(r) => Taking::Refused(r),
+    }
+}
+
+fn take_result(ws: &[u32], st: State, a: Taken) -> Taking
+    requires { ⌜ Ready false (now ws) st a ⌝ }
+    ensures { λ r. ⌜ Takes C.result (now (ws .entry)) st a r ⌝ }
+{
+    match side(ws, st) {
+        Popped::Top(e, next) => Taking::Went(add(a, e), next),
+        Popped::Refused(r) => Taking::Refused(r),
+    }
+}
+
+fn take_labelled_type(ws: &[u32], st: State, a: Taken) -> Taking
+    requires { ⌜ Ready false (now ws) st a ⌝ }
+    ensures { λ r. ⌜ Takes C.a-labelled-type (now (ws .entry)) st a r ⌝ }
+{
+    match pop_if(ws, st, Want::Type) {
+        Popped::Top(e, next) => Taking::Went(add_labelled(a, e), next),
+        Popped::Refused(r) => Taking::Refused(r),
+    }
+}
+
+fn take_labels(ws: &[u32], st: State, a: Taken) -> Taking
+    requires { ⌜ Ready false (now ws) st a ⌝ }
+    ensures { λ r. ⌜ Takes C.labels (now (ws .entry)) st a r ⌝ }
+{
+    let empty = took(ws, st, Want::Kind(30));
+    let next = empty.next;
+    if empty.taken {
+        return Taking::Went(a, next);
+    }
+    kept(labels(ws, next, a.count), a)
+}
+
+fn take_signature(ws: &[u32], st: State, a: Taken) -> Taking
+    requires { ⌜ Ready false (now ws) st a ⌝ }
+    ensures { λ r. ⌜ Takes C.a-signature (now (ws .entry)) st a r ⌝ }
+{
+    match try_take(ws, st, Want::Kind(12)) {
+        Tried::Top(e, next) => Taking::Went(sign(a, e), next),
+        Tried::Nothing => Taking::Went(a, st),
+    }
+}
+
+fn take_elements(ws: &[u32], st: State, a: Taken) -> Taking
+    requires { ⌜ Ready true (now ws) st a ⌝ }
+    ensures { λ r. ⌜ Takes C.elements (now (ws .entry)) st a r ⌝ }
+{
+    let empty = took(ws, st, Want::Kind(30));
+    let next = empty.next;
+    if empty.taken {
+        return Taking::Went(a, next);
+    }
+    gather(ws, next, a, Series::Elements)
+}
+
+fn take_members(ws: &[u32], st: State, a: Taken) -> Taking
+    requires { ⌜ Ready true (now ws) st a ⌝ }
+    ensures { λ r. ⌜ Takes C.members (now (ws .entry)) st a r ⌝ }
+{
+    let empty = took(ws, st, Want::Kind(30));
+    let next = empty.next;
+    if empty.taken {
+        return Taking::Went(a, next);
+    }
+    gather(ws, next, a, Series::Members)
+}
+
+fn take_arguments(ws: &[u32], st: State, a: Taken) -> Taking
+    requires { ⌜ Ready true (now ws) st a ⌝ }
+    ensures { λ r. ⌜ Takes C.arguments (now (ws .entry)) st a r ⌝ }
+{
+    gather(ws, st, a, Series::Arguments)
+}
+
+fn take_requirements(ws: &[u32], st: State, a: Taken) -> Taking
+    requires { ⌜ Ready true (now ws) st a ⌝ }
+    ensures { λ r. ⌜ Takes C.requirements (now (ws .entry)) st a r ⌝ }
+{
+    gather(ws, st, a, Series::Requirements)
+}
+
+fn take_printed_ahead(st: State, a: Taken) -> Taking
+    ensures { λ r. ⌜ ((w : List ℕ) → Takes C.printed-ahead w st a r) ⌝ }
+{
+    Taking::Went(
+        Taken {
+            size: 0,
+            count: a.count,
+            signed: a.signed,
+        },
+        st,
+    )
+}
+
+fn take_refuses(st: State, a: Taken) -> Taking
+    ensures { λ r. ⌜ ((w : List ℕ) → Takes (C.refuses 9) w st a r) ⌝ }
+{
+    Taking::Refused(Refusal::Spelling)
+}
+
+// One take of a row.
+pub fn take_one(ws: &[u32], st: State, a: Taken, t: Take) -> Taking
+    requires { ⌜ Ready (grows (take-of t)) (now ws) st a ⌝ }
+    ensures { λ r. ⌜ Takes (take-of t) (now (ws .entry)) st a r ⌝ }
+{
+    match t {
+        Take::Wraps => take_wraps(st, a),
+        Take::Node(want) => take_node(ws, st, a, want),
+        Take::Name => take_name(ws, st, a),
+        Take::Context => take_context(ws, st, a),
+        Take::Protocol => take_protocol(ws, st, a),
+        Take::Marker(kind) => take_marker(ws, st, a, kind),
+        Take::Qualifier => take_qualifier(ws, st, a),
+        Take::Params => take_params(ws, st, a),
+        Take::Result => take_result(ws, st, a),
+        Take::LabelledType => take_labelled_type(ws, st, a),
+        Take::Labels => take_labels(ws, st, a),
+        Take::Signature => take_signature(ws, st, a),
+        Take::UnderSignature => take_under_signature(st, a),
+        Take::Elements => take_elements(ws, st, a),
+        Take::Members => take_members(ws, st, a),
+        Take::Arguments => take_arguments(ws, st, a),
+        Take::Requirements => take_requirements(ws, st, a),
+        Take::Refuses => take_refuses(st, a),
+        Take::PrintedAhead => take_printed_ahead(st, a),
+    }
+}
