@@ -1,22 +1,21 @@
 -- What stands for one entry, by the kind of what was on top. Assumes nothing.
-use mathlib.Core.Path.{_≡_, refl, sym, ap, subst, _∙_}
-use mathlib.Core.Bool.{Bool, true, false, _&&_}
+use mathlib.Core.Path.{_≡_, ap, _∙_}
+use mathlib.Core.Bool.{true, false, _&&_}
 use mathlib.Core.List.{List}
-use Prim.Native.Nat.{ℕ, suc, _+_, _-_, _≤_, _<_}
+use Prim.Native.Nat.{ℕ, _-_}
 use native.Mathlib.Omega.{arith}
 use borrow.Author.Tests.{eq-eqb, ne-eqb}
 use lib.Dec.{eqb}
-use Rattle.definition.specs.Base.{if_then_else_, ok, refused, ret, refuse, and-then, _>>=_}
 use Rattle.definition.specs.Kind as K
 use Rattle.definition.specs.Machine as M
 use Rattle.definition.specs.Shape as C
-use Rattle.definition.specs.Shape.{Check, kind-of}
+use Rattle.definition.specs.Shape.{kind-of}
 use Rattle.definition.specs.Enums.{number}
 use Rattle.definition.specs.declared.Refusal.{Refusal}
 use Rattle.definition.specs.declared.Refusal.the-variants.{Stack}
-use Rattle.entries.specs.Lies.{machine-of, entry-of, load, Held}
-use Rattle.entries.specs.Answers.{Went, Refuses, Popping, Naming, named-protocol, looked}
-use Rattle.entries.proofs.Steps.{next, next-refuses, refuses, stays, stops, less, yes-went, no-went, yes-refuses, no-refuses, one-node}
+use Rattle.entries.specs.Lies.{entry-of, Held}
+use Rattle.entries.specs.Answers.{Went, Refuses, Popping, Naming, named-protocol}
+use Rattle.entries.proofs.Steps.{next, next-refuses, stays, stops, yes-went, no-went, yes-refuses, no-refuses, one-node}
 use Rattle.entries.specs.declared.Entry.{Entry}
 use Rattle.entries.specs.declared.State.{State}
 use Rattle.entries.specs.declared.Popped.{Popped}

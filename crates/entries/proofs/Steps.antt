@@ -3,7 +3,7 @@ use mathlib.Core.Path.{_≡_, refl, sym, ap, subst, _∙_}
 use mathlib.Core.Bool.{Bool, true, false}
 use mathlib.Core.List.{List}
 use mathlib.Core.Option.{Option, some, none}
-use Prim.Native.Nat.{ℕ, suc, _+_, _≤_, _<_}
+use Prim.Native.Nat.{ℕ, _+_, _≤_}
 use native.Mathlib.Omega.{arith}
 use Rattle.definition.specs.Base.{if_then_else_, is-some, Out, ok, refused, Step, Done, ret, refuse, and-then, _>>=_}
 use Rattle.definition.specs.Kind as K
@@ -12,7 +12,7 @@ use Rattle.definition.specs.Shape as C
 use Rattle.definition.specs.Shape.{Shapes, Check}
 use Rattle.definition.specs.Enums.{number}
 use Rattle.definition.specs.declared.Refusal.{Refusal}
-use Rattle.entries.specs.Lies.{machine-of, entry-of, load, Held}
+use Rattle.entries.specs.Lies.{machine-of, entry-of, Held}
 use Rattle.entries.specs.Answers.{Went, Refuses, Trying, Popping, Moving, looked, node}
 use lib.Dec.{eqb}
 use Rattle.entries.proofs.Top.{held-less, drops}

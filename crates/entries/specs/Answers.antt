@@ -3,17 +3,16 @@ use mathlib.Core.Path.{_≡_}
 use mathlib.Core.Bool.{Bool, true, false}
 use mathlib.Core.List.{List}
 use mathlib.Core.Option.{Option, some, none}
-use Prim.Native.Nat.{ℕ, suc, _+_, _-_, _^_, _≤_, _<_}
+use Prim.Native.Nat.{ℕ, _+_, _-_, _≤_}
 use Rattle.definition.specs.Base.{ok, refused, Done, ret, is-some, _>>=_}
 use Rattle.definition.specs.Kind as K
 use Rattle.definition.specs.Shape.{Check}
 use Rattle.definition.specs.Shape as C
 use Rattle.definition.specs.Enums.{number}
 use Rattle.definition.specs.declared.Refusal.{Refusal}
-use Rattle.entries.specs.Lies.{machine-of, entry-of, entry-at, taken-of, load}
+use Rattle.entries.specs.Lies.{machine-of, entry-of, entry-at, load}
 use Rattle.entries.specs.declared.Entry.{Entry}
 use Rattle.entries.specs.declared.State.{State}
-use Rattle.entries.specs.declared.Taken.{Taken}
 use Rattle.entries.specs.declared.Marked.{Marked}
 use Rattle.entries.specs.declared.Tried.{Tried}
 use Rattle.entries.specs.declared.Tried.the-variants as Tried

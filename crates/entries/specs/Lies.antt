@@ -1,9 +1,7 @@
 -- How the check's machine lies in a workspace. Entry i stands in the three numbers from 3 × i on; the stack's entries begin at 0, the
 -- remembered ones at N.
-use mathlib.Core.Path.{_≡_}
-use mathlib.Core.Bool.{Bool, true, false}
 use mathlib.Core.List.{List, [], _∷_, _++_}
-use Prim.Native.Nat.{ℕ, zero, suc, _+_, _*_, _^_, _≤_, _<_}
+use Prim.Native.Nat.{ℕ, zero, suc, _+_, _*_, _^_, _≤_}
 use lib.ListN.{length, getD}
 use Rattle.definition.specs.Kind as K
 use Rattle.definition.specs.Machine as M

@@ -1,7 +1,6 @@
 // The entries of the shape check in a lent workspace, read only: what lies on the stack is taken off by a smaller depth.
 // Entry i stands in the three numbers from 3 * i on: kind, size and count.
-ghost use mathlib.Core.Path.{_≡_};
-ghost use Prim.Native.Nat.{ℕ, _+_, _*_, _≤_};
+ghost use Prim.Native.Nat.{_+_, _*_, _≤_};
 ghost use lib.ListN.{length};
 ghost use Rattle.definition.specs.Machine as M;
 ghost use Rattle.definition.specs.Shape as C;

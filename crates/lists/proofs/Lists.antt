@@ -2,20 +2,17 @@
 use mathlib.Core.Path.{_≡_, refl, sym, ap, subst, _∙_}
 use mathlib.Core.Bool.{Bool, true, false}
 use mathlib.Core.List.{List}
-use mathlib.Core.Option.{Option, some, none}
-use Prim.Native.Nat.{ℕ, zero, suc, _+_, _-_, _^_, _≤_, _<_}
+use mathlib.Core.Option.{some, none}
+use Prim.Native.Nat.{ℕ, suc, _+_, _-_, _<_}
 use native.Mathlib.Omega.{arith}
-use native.Mathlib.Nat.{not-suc-le-zero}
 use lib.Dec.{eqb}
-use lib.ListN.{length}
-use Rattle.definition.specs.Base.{if_then_else_, given, Out, ok, refused, ret, refuse, and-then, _>>=_, _>>_}
+use Rattle.definition.specs.Base.{if_then_else_, ret}
 use Rattle.definition.specs.Kind as K
 use Rattle.definition.specs.Machine.{rounds}
 use Rattle.definition.specs.Shape as C
-use Rattle.definition.specs.Shape.{Shapes, Check}
-use Rattle.definition.specs.Enums.{number}
+use Rattle.definition.specs.Shape.{Check}
 use Rattle.definition.specs.declared.Refusal.{Refusal}
-use Rattle.entries.specs.Lies.{machine-of, stack-of, entry-of, taken-of, load, Held}
+use Rattle.entries.specs.Lies.{machine-of, entry-of, taken-of}
 use Rattle.entries.specs.Answers.{Went, Refuses, looked}
 use Rattle.lists.specs.Rounds.{from-of, all-of, argument-marks, Adds, Gathered, Last, More, Marks, Fails, Rounding, ArgumentMark, ended-of, Gathers}
 use Rattle.entries.proofs.Top.{length-stack, held-less}

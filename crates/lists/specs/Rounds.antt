@@ -3,7 +3,7 @@ use mathlib.Core.Path.{_≡_}
 use mathlib.Core.Bool.{Bool, true, false}
 use mathlib.Core.List.{List}
 use Prim.Native.Nat.{ℕ, zero, suc, _+_, _^_, _≤_, _<_}
-use Rattle.definition.specs.Base.{if_then_else_, ok, refused, Done, ret, refuse, and-then, _>>=_, _>>_}
+use Rattle.definition.specs.Base.{if_then_else_, ok, refused, ret, refuse, _>>=_, _>>_}
 use Rattle.definition.specs.Kind as K
 use lib.Dec.{eqb}
 use Rattle.definition.specs.Machine.{rounds}

@@ -1,6 +1,6 @@
 // The lists on the stack of the shape check.
 ghost use mathlib.Core.Path.{_≡_};
-ghost use Prim.Native.Nat.{ℕ, _^_, _≤_, _<_};
+ghost use Prim.Native.Nat.{_^_, _≤_, _<_};
 ghost use Rattle.definition.specs.Shape as C;
 ghost use Rattle.entries.specs.Lies.{entry-of, taken-of, Held};
 ghost use Rattle.lists.specs.Rounds.{ArgumentMark, from-of, all-of, ended-of, Adds, Rounding, Gathering};

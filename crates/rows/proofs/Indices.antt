@@ -1,6 +1,6 @@
 -- Rows are in the table. Assumes nothing.
-use mathlib.Core.Bool.{Bool, true, false}
-use Prim.Native.Nat.{ℕ, _+_, _*_, _≤_, _<_}
+use mathlib.Core.Bool.{true, false}
+use Prim.Native.Nat.{_≤_, _<_}
 use native.Mathlib.Omega.{arith}
 use Rattle.definition.specs.declared.NominalKind.{NominalKind}
 use Rattle.definition.specs.declared.NominalKind.the-variants as NominalKind

@@ -1,10 +1,9 @@
 -- The numbers are the definition's table. Assumes nothing.
 use mathlib.Core.Path.{_≡_, refl}
-use mathlib.Core.Bool.{Bool, true, false}
+use mathlib.Core.Bool.{true, false}
 use mathlib.Core.List.{[]}
 use Prim.Native.Nat.{ℕ, _+_, _*_}
 use Prim.Native.String.{String}
-use Rattle.definition.specs.Base.{bytes}
 use Rattle.definition.specs.Node.{nominal-kind}
 use Rattle.definition.specs.Shape as C
 use Rattle.definition.specs.Enums as Enums

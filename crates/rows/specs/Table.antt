@@ -1,5 +1,4 @@
 -- The rules as numbers: rows of up to ten codes, with what each row leaves.
-use mathlib.Core.Path.{_≡_}
 use mathlib.Core.Bool.{Bool, true, false}
 use mathlib.Core.List.{List, [], _∷_}
 use mathlib.Core.Option.{Option, some, none}

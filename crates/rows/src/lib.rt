@@ -1,6 +1,6 @@
 // The shape check's rules as a table: what each row takes and leaves, and the row of each operator.
 ghost use mathlib.Core.Path.{_≡_};
-ghost use Prim.Native.Nat.{ℕ, _+_, _*_, _≤_, _<_};
+ghost use Prim.Native.Nat.{_+_, _*_, _≤_, _<_};
 ghost use lib.Dec.{eqb};
 ghost use lib.ListN.{getD};
 ghost use Rattle.rows.specs.Table.{decoded, code-at, kinds, own, counted, remembered, nominal-index, leaf-row, subject-index, layout-index, constraint-index, accessor-index, about-index, row-of, times-of};

@@ -1,16 +1,15 @@
 -- What a row leaves, and rows as a whole. Assumes nothing.
 use mathlib.Core.Path.{_≡_, refl, sym, ap, subst, _∙_}
 use mathlib.Core.Bool.{Bool, true, false, _&&_}
-use mathlib.Core.List.{List, [], _∷_, _++_}
-use mathlib.Core.Option.{Option, some, none}
-use Prim.Native.Nat.{ℕ, zero, suc, _+_, _*_, _-_, _^_, _≤_, _<_}
+use mathlib.Core.List.{List, [], _∷_}
+use Prim.Native.Nat.{ℕ, zero, suc, _+_, _*_, _-_, _≤_, _<_}
 use Prim.Native.String.{String}
 use native.Mathlib.Omega.{arith}
 use native.Mathlib.Nat.{le-trans, le-of-eq, one-mul, mul-le-mul-right, not-suc-le-zero, le-of-suc-le-suc}
 use borrow.Author.Tests.{leb-true}
-use lib.Dec.{eqb, leb, ltb}
-use lib.ListN.{length, length-append, getD, getElem?}
-use Rattle.definition.specs.Base.{if_then_else_, given, Out, ok, refused, Done, ret, and-then, _>>=_, _>>_}
+use lib.Dec.{eqb, leb}
+use lib.ListN.{length, length-append, getD}
+use Rattle.definition.specs.Base.{if_then_else_, Out, ok, refused, Done, ret, and-then}
 use Rattle.definition.specs.Kind as K
 use Rattle.definition.specs.Budget as B
 use Rattle.definition.specs.Machine as M
@@ -22,10 +21,9 @@ use Rattle.definition.specs.Enums as Enums
 use Rattle.definition.specs.Enums.{number}
 use Rattle.definition.specs.declared.Refusal.{Refusal}
 use Rattle.definition.specs.declared.Operator.{Operator}
-use Rattle.definition.proofs.Room.{weigh, Fits}
 use Rattle.budget.specs.Spent.{budget-of}
 use Rattle.budget.specs.declared.Budget.{Budget}
-use Rattle.entries.specs.Lies.{machine-of, stack-of, seen-of, entry-of, entry-at, taken-of, load, Held}
+use Rattle.entries.specs.Lies.{machine-of, seen-of, entry-of, entry-at, taken-of}
 use Rattle.entries.proofs.Top.{length-stack}
 use Rattle.entries.specs.declared.Entry.{Entry}
 use Rattle.entries.specs.declared.State.{State}
@@ -33,7 +31,7 @@ use Rattle.entries.specs.declared.Taken.{Taken}
 use Rattle.entries.specs.declared.Taking.{Taking}
 use Rattle.entries.specs.declared.Taking.the-variants as Taking
 use Rattle.rows.specs.Table.{kinds, own, counted, row-takes, row-leaves, copies-of, row-of, times-of}
-use Rattle.shape.specs.Performs.{Light, RowWent, RowRefused, RowTaking, Outside, Wrote, Failed, Performing, Remembered, LeftBy, put, recall-copies, Puts, Roomy, Sound}
+use Rattle.shape.specs.Performs.{Light, RowWent, RowRefused, RowTaking, Wrote, Failed, Performing, Remembered, LeftBy, put, Puts, Roomy, Sound}
 use Rattle.rows.proofs.Rows.{row-is}
 use Rattle.shape.proofs.Stores.{outside-both, outside-none}
 use Rattle.rows.specs.declared.Copies.{Copies}

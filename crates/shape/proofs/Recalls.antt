@@ -3,18 +3,17 @@ use mathlib.Core.Path.{_≡_, refl, sym, ap, subst, _∙_}
 use mathlib.Core.Bool.{Bool, true, false}
 use mathlib.Core.List.{List, [], _∷_, _++_}
 use mathlib.Core.Option.{Option, some, none}
-use Prim.Native.Nat.{ℕ, zero, suc, _+_, _*_, _≤_, _<_}
+use Prim.Native.Nat.{ℕ, zero, suc, _+_, _≤_, _<_}
 use native.Mathlib.Omega.{arith}
 use native.Mathlib.Nat.{not-suc-le-zero, le-of-suc-le-suc}
 use borrow.Author.Tests.{ltb-true, ltb-false}
 use lib.Dec.{ltb}
 use lib.ListN.{length, getElem?}
-use Rattle.definition.specs.Base.{given, Out, ok, refused, Done, and-then, _>>=_}
+use Rattle.definition.specs.Base.{given, ok, refused, Done, and-then}
 use Rattle.definition.specs.Kind as K
 use Rattle.definition.specs.Machine as M
 use Rattle.definition.specs.Shape as C
-use Rattle.definition.specs.Shape.{Shapes, Check}
-use Rattle.definition.proofs.Room.{AllOf, Bounded, Fits}
+use Rattle.definition.proofs.Room.{AllOf, Bounded}
 use Rattle.entries.specs.Lies.{machine-of, seen-of, entry-of, entry-at}
 use Rattle.entries.specs.declared.Entry.{Entry}
 use Rattle.entries.specs.declared.State.{State}

@@ -5,16 +5,14 @@ use mathlib.Core.List.{List, [], _∷_}
 use Prim.Native.Nat.{ℕ, zero, suc, _+_, _*_, _-_, _^_, _≤_, _<_}
 use native.Mathlib.Omega.{arith}
 use native.Mathlib.Nat.{not-suc-le-zero}
-use native.Mathlib.Numerals.{add-one}
 use borrow.Author.Tests.{eq-eqb, ne-eqb, ltb-true, ltb-false, leb-true}
 use lib.Dec.{eqb, ltb, leb}
 use lib.ListN.{getD}
-use Rattle.definition.specs.Base.{Out, ok, refused, Done, and-then}
+use Rattle.definition.specs.Base.{Out, Done, and-then}
 use Rattle.definition.specs.Shape as C
 use Rattle.definition.specs.Shape.{Shapes, Check}
-use Rattle.definition.specs.Enums.{number}
 use Rattle.definition.specs.declared.Refusal.{Refusal}
-use Rattle.entries.specs.Lies.{machine-of, taken-of, load, Held}
+use Rattle.entries.specs.Lies.{machine-of, taken-of, load}
 use Rattle.entries.specs.Answers.{Refuses}
 use Rattle.entries.specs.Means.{take-of}
 use Rattle.takes.specs.Step.{take-step, grows, resets, Ready, Goes, Takes}

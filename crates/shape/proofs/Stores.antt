@@ -1,27 +1,23 @@
 -- The machine in a workspace that was written. Assumes nothing.
-use mathlib.Core.Path.{_≡_, refl, sym, ap, subst, _∙_}
-use mathlib.Core.Bool.{Bool, true, false}
+use mathlib.Core.Path.{_≡_, refl, sym, ap, _∙_}
 use mathlib.Core.List.{List, [], _∷_, _++_}
-use mathlib.Core.Option.{Option, some, none}
-use Prim.Native.Nat.{ℕ, zero, suc, _+_, _*_, _-_, _^_, _≤_, _<_}
+use Prim.Native.Nat.{ℕ, zero, suc, _+_, _*_, _-_, _≤_, _<_}
 use native.Mathlib.Omega.{arith}
 use native.Mathlib.Numerals.{add-one}
 use lib.ListN.{length, getD, set, length-set, replicate}
 use lib.Seq.{getD-set-same, getD-set-other}
-use Rattle.definition.specs.Base.{if_then_else_, given, Out, ok, refused, Done, ret, and-then, _>>=_, _>>_}
+use Rattle.definition.specs.Base.{ok}
 use Rattle.definition.specs.Kind as K
 use Rattle.definition.specs.Budget as B
 use Rattle.definition.specs.Machine as M
 use Rattle.definition.specs.Shape as C
-use Rattle.definition.specs.Shape.{Shapes, Check}
-use Rattle.definition.specs.Enums.{number}
-use Rattle.definition.specs.declared.Refusal.{Refusal}
+use Rattle.definition.specs.Shape.{Shapes}
 use Rattle.budget.specs.Spent.{budget-of}
 use Rattle.budget.specs.declared.Budget.{Budget}
-use Rattle.entries.specs.Lies.{machine-of, stack-of, seen-of, entry-of, entry-at, taken-of}
+use Rattle.entries.specs.Lies.{stack-of, seen-of, entry-of, entry-at}
 use Rattle.entries.specs.declared.Entry.{Entry}
 use Rattle.entries.specs.declared.State.{State}
-use Rattle.shape.specs.Performs.{Stored, Outside, Wrote, Failed}
+use Rattle.shape.specs.Performs.{Stored, Outside, Wrote}
 
 entry-same : {a b d a₁ b₁ d₁ : ℕ} → a ≡ a₁ → b ≡ b₁ → d ≡ d₁ → K.entry a b d ≡ K.entry a₁ b₁ d₁
 entry-same {a} {b} {d} {a₁} {b₁} {d₁} p q r = ap (λ (x : ℕ). K.entry x b d) p ∙ (ap (λ (x : ℕ). K.entry a₁ x d) q ∙ ap (λ (x : ℕ). K.entry a₁ b₁ x) r)

@@ -1,7 +1,6 @@
 // The shape check's one interpreter, and what a row leaves. The stack's entries stand in the lent workspace
 // from place 0 on, the remembered ones from place N on, three numbers each.
-ghost use mathlib.Core.Path.{_≡_};
-ghost use Prim.Native.Nat.{ℕ, _+_, _-_, _*_, _^_, _≤_, _<_};
+ghost use Prim.Native.Nat.{_+_, _-_, _*_, _^_, _≤_, _<_};
 ghost use lib.ListN.{length};
 ghost use Rattle.rows.specs.Table.{row-leaves};
 ghost use Rattle.entries.specs.Lies.{entry-of, taken-of};

@@ -1,6 +1,6 @@
 // The parts of a symbol: prefix, body and suffix.
 ghost use mathlib.Core.Path.{_≡_};
-ghost use Prim.Native.Nat.{ℕ, _≤_};
+ghost use Prim.Native.Nat.{_≤_};
 ghost use lib.ListN.{length, take, drop};
 ghost use Rattle.definition.specs.Base.{same};
 ghost use Rattle.definition.specs.Text as Text;

@@ -1,13 +1,13 @@
 -- One take after the other. Assumes nothing.
 use mathlib.Core.Path.{_≡_, refl, sym, ap, subst, _∙_}
 use mathlib.Core.Bool.{Bool, true, false}
-use mathlib.Core.List.{List, [], _∷_}
-use mathlib.Core.Option.{Option, some, none}
-use Prim.Native.Nat.{ℕ, zero, suc, _+_, _-_, _^_, _≤_, _<_}
+use mathlib.Core.List.{List, _∷_}
+use mathlib.Core.Option.{some, none}
+use Prim.Native.Nat.{ℕ, suc, _+_, _-_, _≤_, _<_}
 use native.Mathlib.Omega.{arith}
 use borrow.Author.Tests.{eq-eqb, ne-eqb}
 use lib.Dec.{eqb, ltb}
-use Rattle.definition.specs.Base.{if_then_else_, given, is-some, Out, ok, refused, Done, ret, refuse, and-then, _>>=_, _>>_}
+use Rattle.definition.specs.Base.{if_then_else_, is-some, Out, ok, refused, Done, ret, and-then, _>>=_, _>>_}
 use Rattle.definition.specs.Kind as K
 use Rattle.definition.specs.Budget as B
 use Rattle.definition.specs.Machine as M
@@ -17,14 +17,14 @@ use Rattle.definition.specs.Shape.{Shapes, Check, Take, kind-of}
 use Rattle.definition.specs.Enums.{number}
 use Rattle.definition.specs.declared.Refusal.{Refusal}
 use Rattle.definition.specs.declared.Refusal.the-variants.{Stack}
-use Rattle.budget.specs.Spent.{budget-of, Spending}
+use Rattle.budget.specs.Spent.{budget-of}
 use Rattle.budget.specs.declared.Budget.{Budget}
-use Rattle.entries.specs.Lies.{machine-of, stack-of, entry-of, taken-of, load, Held}
+use Rattle.entries.specs.Lies.{machine-of, entry-of, taken-of}
 use Rattle.entries.specs.Answers.{Went, Refuses, Moving, looked}
-use Rattle.lists.specs.Rounds.{all-of, Adds, Gathered, Gathers, Gathering}
-use Rattle.takes.specs.Step.{one-label, take-step, resets, Ready, Goes, Takes, kept-of, Sets}
+use Rattle.lists.specs.Rounds.{all-of, Adds, Gathered, Gathering}
+use Rattle.takes.specs.Step.{one-label, take-step, Ready, Goes, Takes, kept-of, Sets}
 use Rattle.entries.proofs.Top.{held-less, weigh-less}
-use Rattle.entries.proofs.Steps.{assoc, on, off, past, next, next-refuses, refuses, stays, stops, yes-went, no-went, yes-refuses, no-refuses}
+use Rattle.entries.proofs.Steps.{assoc, on, off, next, next-refuses, refuses, stays, stops, yes-went, no-went, yes-refuses, no-refuses}
 use Rattle.entries.specs.declared.Entry.{Entry}
 use Rattle.entries.specs.declared.State.{State}
 use Rattle.entries.specs.declared.Taken.{Taken}

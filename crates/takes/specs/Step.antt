@@ -4,7 +4,7 @@ use mathlib.Core.Bool.{Bool, true, false}
 use mathlib.Core.List.{List}
 use Prim.Native.Nat.{ℕ, _+_, _^_, _≤_, _<_}
 use lib.Dec.{eqb}
-use Rattle.definition.specs.Base.{if_then_else_, ok, refused, Done, ret, refuse, and-then, _>>=_, _>>_}
+use Rattle.definition.specs.Base.{if_then_else_, ok, Done, ret, refuse, _>>=_, _>>_}
 use Rattle.definition.specs.Kind as K
 use Rattle.definition.specs.Machine as M
 use Rattle.definition.specs.Machine.{wrap, rounds}

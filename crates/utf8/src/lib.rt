@@ -1,6 +1,6 @@
 // UTF-8.
 ghost use mathlib.Core.Path.{_≡_};
-ghost use Prim.Native.Nat.{ℕ, _+_, _-_, _≤_, _<_};
+ghost use Prim.Native.Nat.{_+_, _-_, _≤_, _<_};
 ghost use lib.ListN.{length, getD, take, drop};
 ghost use Rattle.definition.specs.Text as Text;
 ghost use Rattle.definition.specs.Text.{rows};
