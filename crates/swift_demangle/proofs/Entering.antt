@@ -75,14 +75,14 @@ unfolding Check.stopped-after accepted
 check-k-late N k s out = within-late out (Check.stopped-after N k s) (ended-late s _ _ (check-numbers N k (s .body)) (λ m. tt))
 
 -- THE WORKSPACE
-pub scratch-same : (need N : ℕ) (w : List ℕ) (r : Answer) → Scratch need N w w r
-scratch-same need N w r = record { long = refl; past = λ i h. refl; untouched = λ h. refl }
+pub scratch-same : (need N n : ℕ) (w : List ℕ) → Scratch need N n w w
+scratch-same need N n w = record { long = refl; past = λ i h. refl; untouched = λ h. refl }
 
-pub scratch-run : (need N : ℕ) (w w′ : List ℕ) (r : Answer) (v : Calls.Values) → values r ≡ v → T (not (early (v .number))) → length w′ ≡ length w → ((i : ℕ) → need * N ≤ i → getD w′ i 0 ≡ getD w i 0) → Scratch need N w w′ r
-scratch-run need N w w′ r v e h l p = record {
+pub scratch-run : (need N n : ℕ) (w w′ : List ℕ) (m : ℕ) → n ≡ m → T (not (early m)) → length w′ ≡ length w → ((i : ℕ) → need * N ≤ i → getD w′ i 0 ≡ getD w i 0) → Scratch need N n w w′
+scratch-run need N n w w′ m e h l p = record {
   long = l;
   past = p;
-  untouched = λ k. absurd (T-not (early (v .number)) h (subst (λ (x : Calls.Values). T (early (x .number))) e k));
+  untouched = λ k. absurd (T-not (early m) h (subst (λ (x : ℕ). T (early x)) e k));
 }
 
 -- THE ANSWER

@@ -10,8 +10,6 @@ use Rattle.definition.specs.Calls as Calls
 use Rattle.definition.specs.Calls.{within, checked, reading-needs, check-needs}
 use Rattle.definition.specs.Reading as Reading
 use Rattle.definition.specs.Check as Check
-use Rattle.definition.specs.Enums.{values}
-use Rattle.definition.specs.declared.Answer.{Answer}
 use Rattle.runs.specs.Ends.{kinds-of}
 use Rattle.runs.specs.declared.Final.{Final}
 use Rattle.admission.specs.Admits.{framed}
@@ -32,8 +30,9 @@ check-stopped what t N k workspace out = within out (checked check-needs N works
 abbrev pub early : ℕ → Bool
 early n = ltb 0 n && ltb n 6
 
--- the workspace is scratch up to need × N numbers; past them it is as it was, and wholly so where 1 to 5 refuse
-pub record Scratch (need N : ℕ) (w w′ : List ℕ) (r : Answer) : Type 0 where
+-- of a call that answers with the number n: its workspace is scratch up to need × N numbers; past them it is as it was, and wholly so where 1
+-- to 5 refuse
+pub record Scratch (need N n : ℕ) (w w′ : List ℕ) : Type 0 where
   pub long : length w′ ≡ length w
   pub past : (i : ℕ) → need * N ≤ i → getD w′ i 0 ≡ getD w i 0
-  pub untouched : T (early (values r .number)) → w′ ≡ w
+  pub untouched : T (early n) → w′ ≡ w

@@ -15,7 +15,7 @@ use runs::Final;
 // Reading
 
 fn read(text: &[u8], what: Final, ceiling: usize, workspace: &mut [u32], out: &mut [u8]) -> Answer
-    ensures { λ r. ⌜ Answers (read-whole what (now (text .entry)) ceiling (length (now (workspace .entry))) (length (now (out .entry)))) (now (out .entry)) (now (out .exit)) r × Scratch 64 ceiling (now (workspace .entry)) (now (workspace .exit)) r ⌝ }
+    ensures { λ r. ⌜ Answers (read-whole what (now (text .entry)) ceiling (length (now (workspace .entry))) (length (now (out .entry)))) (now (out .entry)) (now (out .exit)) r × Scratch 64 ceiling (Enums.values r .number) (now (workspace .entry)) (now (workspace .exit)) ⌝ }
 {
     match admission::admit(text, what, ceiling, 64, workspace.len()) {
         Admitted::Body(start, end) => answers::read_body(
@@ -39,7 +39,7 @@ fn read_stopped(
     workspace: &mut [u32],
     out: &mut [u32],
 ) -> Answer
-    ensures { λ r. ⌜ Answers (read-stopped what (now (text .entry)) ceiling k (length (now (workspace .entry))) (length (now (out .entry)))) (now (out .entry)) (now (out .exit)) r × Scratch 64 ceiling (now (workspace .entry)) (now (workspace .exit)) r ⌝ }
+    ensures { λ r. ⌜ Answers (read-stopped what (now (text .entry)) ceiling k (length (now (workspace .entry))) (length (now (out .entry)))) (now (out .entry)) (now (out .exit)) r × Scratch 64 ceiling (Enums.values r .number) (now (workspace .entry)) (now (workspace .exit)) ⌝ }
 {
     match admission::admit(text, what, ceiling, 64, workspace.len()) {
         Admitted::Body(start, end) => answers::read_stopped_body(
@@ -58,7 +58,7 @@ fn read_stopped(
 // Shape check
 
 fn check(text: &[u8], what: Final, ceiling: usize, workspace: &mut [u32]) -> Answer
-    ensures { λ r. ⌜ (Enums.values r ≡ check-whole what (now (text .entry)) ceiling (length (now (workspace .entry))) .values) × Scratch 8 ceiling (now (workspace .entry)) (now (workspace .exit)) r ⌝ }
+    ensures { λ r. ⌜ (Enums.values r ≡ check-whole what (now (text .entry)) ceiling (length (now (workspace .entry))) .values) × Scratch 8 ceiling (Enums.values r .number) (now (workspace .entry)) (now (workspace .exit)) ⌝ }
 {
     match admission::admit(text, what, ceiling, 8, workspace.len()) {
         Admitted::Body(start, end) => answers::check_body(
@@ -81,7 +81,7 @@ fn check_stopped(
     workspace: &mut [u32],
     out: &mut [u32],
 ) -> Answer
-    ensures { λ r. ⌜ Answers (check-stopped what (now (text .entry)) ceiling k (length (now (workspace .entry))) (length (now (out .entry)))) (now (out .entry)) (now (out .exit)) r × Scratch 8 ceiling (now (workspace .entry)) (now (workspace .exit)) r ⌝ }
+    ensures { λ r. ⌜ Answers (check-stopped what (now (text .entry)) ceiling k (length (now (workspace .entry))) (length (now (out .entry)))) (now (out .entry)) (now (out .exit)) r × Scratch 8 ceiling (Enums.values r .number) (now (workspace .entry)) (now (workspace .exit)) ⌝ }
 {
     match admission::admit(text, what, ceiling, 8, workspace.len()) {
         Admitted::Body(start, end) => answers::check_stopped_body(
@@ -101,28 +101,28 @@ fn check_stopped(
 
 // Reads a symbol, and writes its text to the front of out.
 pub fn demangle(text: &[u8], ceiling: usize, workspace: &mut [u32], out: &mut [u8]) -> Answer
-    ensures { λ r. ⌜ Answers (Reading.demangle (now (text .entry)) ceiling (length (now (workspace .entry))) (length (now (out .entry)))) (now (out .entry)) (now (out .exit)) r × Scratch 64 ceiling (now (workspace .entry)) (now (workspace .exit)) r ⌝ }
+    ensures { λ r. ⌜ Answers (Reading.demangle (now (text .entry)) ceiling (length (now (workspace .entry))) (length (now (out .entry)))) (now (out .entry)) (now (out .exit)) r × Scratch 64 ceiling (Enums.values r .number) (now (workspace .entry)) (now (workspace .exit)) ⌝ }
 {
     read(text, Final::Symbol, ceiling, workspace, out)
 }
 
 // Reads a type.
 pub fn demangle_type(text: &[u8], ceiling: usize, workspace: &mut [u32], out: &mut [u8]) -> Answer
-    ensures { λ r. ⌜ Answers (Reading.demangle-type (now (text .entry)) ceiling (length (now (workspace .entry))) (length (now (out .entry)))) (now (out .entry)) (now (out .exit)) r × Scratch 64 ceiling (now (workspace .entry)) (now (workspace .exit)) r ⌝ }
+    ensures { λ r. ⌜ Answers (Reading.demangle-type (now (text .entry)) ceiling (length (now (workspace .entry))) (length (now (out .entry)))) (now (out .entry)) (now (out .exit)) r × Scratch 64 ceiling (Enums.values r .number) (now (workspace .entry)) (now (workspace .exit)) ⌝ }
 {
     read(text, Final::Type, ceiling, workspace, out)
 }
 
 // Checks the shape of a symbol.
 pub fn shape(text: &[u8], ceiling: usize, workspace: &mut [u32]) -> Answer
-    ensures { λ r. ⌜ (Enums.values r ≡ Check.shape (now (text .entry)) ceiling (length (now (workspace .entry))) .values) × Scratch 8 ceiling (now (workspace .entry)) (now (workspace .exit)) r ⌝ }
+    ensures { λ r. ⌜ (Enums.values r ≡ Check.shape (now (text .entry)) ceiling (length (now (workspace .entry))) .values) × Scratch 8 ceiling (Enums.values r .number) (now (workspace .entry)) (now (workspace .exit)) ⌝ }
 {
     check(text, Final::Symbol, ceiling, workspace)
 }
 
 // Checks the shape of a type.
 pub fn shape_type(text: &[u8], ceiling: usize, workspace: &mut [u32]) -> Answer
-    ensures { λ r. ⌜ (Enums.values r ≡ Check.shape-type (now (text .entry)) ceiling (length (now (workspace .entry))) .values) × Scratch 8 ceiling (now (workspace .entry)) (now (workspace .exit)) r ⌝ }
+    ensures { λ r. ⌜ (Enums.values r ≡ Check.shape-type (now (text .entry)) ceiling (length (now (workspace .entry))) .values) × Scratch 8 ceiling (Enums.values r .number) (now (workspace .entry)) (now (workspace .exit)) ⌝ }
 {
     check(text, Final::Type, ceiling, workspace)
 }
@@ -135,7 +135,7 @@ pub fn demangle_stopped(
     workspace: &mut [u32],
     out: &mut [u32],
 ) -> Answer
-    ensures { λ r. ⌜ Answers (Reading.demangle-stopped (now (text .entry)) ceiling k (length (now (workspace .entry))) (length (now (out .entry)))) (now (out .entry)) (now (out .exit)) r × Scratch 64 ceiling (now (workspace .entry)) (now (workspace .exit)) r ⌝ }
+    ensures { λ r. ⌜ Answers (Reading.demangle-stopped (now (text .entry)) ceiling k (length (now (workspace .entry))) (length (now (out .entry)))) (now (out .entry)) (now (out .exit)) r × Scratch 64 ceiling (Enums.values r .number) (now (workspace .entry)) (now (workspace .exit)) ⌝ }
 {
     read_stopped(text, Final::Symbol, ceiling, k, workspace, out)
 }
@@ -148,7 +148,7 @@ pub fn demangle_type_stopped(
     workspace: &mut [u32],
     out: &mut [u32],
 ) -> Answer
-    ensures { λ r. ⌜ Answers (Reading.demangle-type-stopped (now (text .entry)) ceiling k (length (now (workspace .entry))) (length (now (out .entry)))) (now (out .entry)) (now (out .exit)) r × Scratch 64 ceiling (now (workspace .entry)) (now (workspace .exit)) r ⌝ }
+    ensures { λ r. ⌜ Answers (Reading.demangle-type-stopped (now (text .entry)) ceiling k (length (now (workspace .entry))) (length (now (out .entry)))) (now (out .entry)) (now (out .exit)) r × Scratch 64 ceiling (Enums.values r .number) (now (workspace .entry)) (now (workspace .exit)) ⌝ }
 {
     read_stopped(text, Final::Type, ceiling, k, workspace, out)
 }
@@ -161,7 +161,7 @@ pub fn shape_stopped(
     workspace: &mut [u32],
     out: &mut [u32],
 ) -> Answer
-    ensures { λ r. ⌜ Answers (Check.shape-stopped (now (text .entry)) ceiling k (length (now (workspace .entry))) (length (now (out .entry)))) (now (out .entry)) (now (out .exit)) r × Scratch 8 ceiling (now (workspace .entry)) (now (workspace .exit)) r ⌝ }
+    ensures { λ r. ⌜ Answers (Check.shape-stopped (now (text .entry)) ceiling k (length (now (workspace .entry))) (length (now (out .entry)))) (now (out .entry)) (now (out .exit)) r × Scratch 8 ceiling (Enums.values r .number) (now (workspace .entry)) (now (workspace .exit)) ⌝ }
 {
     check_stopped(text, Final::Symbol, ceiling, k, workspace, out)
 }
@@ -174,7 +174,7 @@ pub fn shape_type_stopped(
     workspace: &mut [u32],
     out: &mut [u32],
 ) -> Answer
-    ensures { λ r. ⌜ Answers (Check.shape-type-stopped (now (text .entry)) ceiling k (length (now (workspace .entry))) (length (now (out .entry)))) (now (out .entry)) (now (out .exit)) r × Scratch 8 ceiling (now (workspace .entry)) (now (workspace .exit)) r ⌝ }
+    ensures { λ r. ⌜ Answers (Check.shape-type-stopped (now (text .entry)) ceiling k (length (now (workspace .entry))) (length (now (out .entry)))) (now (out .entry)) (now (out .exit)) r × Scratch 8 ceiling (Enums.values r .number) (now (workspace .entry)) (now (workspace .exit)) ⌝ }
 {
     check_stopped(text, Final::Type, ceiling, k, workspace, out)
 }
