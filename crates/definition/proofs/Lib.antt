@@ -9,3 +9,4 @@ pub mod OperatorsAlike
 pub mod WordsAlike
 pub mod JudgingAlike
 pub mod Room
+pub mod RunNumbers

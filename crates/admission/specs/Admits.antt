@@ -1,0 +1,43 @@
+-- What is read of a text, and what the checks before a run say of the definition's. Assumes nothing.
+use mathlib.Core.Path.{_≡_}
+use Prim.Native.Nat.{ℕ, _*_, _≤_}
+use lib.ListN.{length}
+use Rattle.definition.specs.Text.{Text, Symbol}
+use Rattle.definition.specs.Calls as Calls
+use Rattle.definition.specs.Calls.{refusal, checked, symbol, whole-text}
+use Rattle.definition.specs.Enums.{number}
+use Rattle.definition.specs.declared.Refusal.{Refusal}
+use Rattle.text.specs.Symbol as Symbols
+use Rattle.runs.specs.declared.Final.{Final}
+use Rattle.runs.specs.declared.Final.the-variants as Final
+use Rattle.admission.specs.declared.Admitted.{Admitted}
+use Rattle.admission.specs.declared.Admitted.the-variants as Admitted
+
+-- what is read of a text: a symbol's parts, or a type's whole text
+abbrev pub framed : Final → Text → (Symbol → Calls.Answer) → Calls.Answer
+framed Final.Symbol t read = symbol t read
+framed Final.Type t read = read (whole-text t)
+
+-- whatever is read next is read of text[start..end]
+pub record Body (before : (Symbol → Calls.Answer) → Calls.Answer) (t : Text) (start end : ℕ) : Type 0 where
+  pub is : (read : Symbol → Calls.Answer) → before read ≡ read (Symbols.symbol t start end)
+  pub order : start ≤ end
+  pub inside : end ≤ length t
+
+-- it is refused, whatever would be read next
+pub record Refused (before : (Symbol → Calls.Answer) → Calls.Answer) (r : Refusal) (place : ℕ) : Type 0 where
+  pub is : (read : Symbol → Calls.Answer) → before read ≡ refusal (number r) place
+
+abbrev pub Frames : ((Symbol → Calls.Answer) → Calls.Answer) → Text → Admitted → Type 0
+Frames before t (Admitted.Body start end) = Body before t start end
+Frames before t (Admitted.Refused r place) = Refused before r place
+
+-- the run's bounds
+pub record Bounds (need N workspace : ℕ) (t : Text) : Type 0 where
+  pub small : N ≤ 65536
+  pub long : need * N ≤ workspace
+  pub short : length t ≤ 65535
+
+abbrev pub Admits : Final → (need N workspace : ℕ) → Text → Admitted → Type 0
+Admits what need N workspace t (Admitted.Body start end) = Body (λ read. checked need N workspace t (framed what t read)) t start end × Bounds need N workspace t
+Admits what need N workspace t (Admitted.Refused r place) = Refused (λ read. checked need N workspace t (framed what t read)) r place

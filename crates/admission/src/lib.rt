@@ -1,0 +1,50 @@
+// The checks before a run, 1 to 5 of document 01, and what of the text is read then.
+ghost use Prim.Native.Nat.{_≤_};
+ghost use Rattle.admission.specs.Admits.{framed, Frames, Admits};
+use budget::Budget;
+use definition::Refusal;
+use runs::Final;
+use text::IllFormed;
+use text::Symbol;
+
+// The body is text[start..end]; or the text is refused before a run, at a place.
+pub enum Admitted {
+    Body(usize, usize),
+    Refused(Refusal, usize),
+}
+
+// The body of a symbol, or a type's whole text. 5: there is none.
+fn body_of(text: &[u8], what: Final) -> Admitted
+    ensures { λ r. ⌜ Frames (framed what (now (text .entry))) (now (text .entry)) r ⌝ }
+{
+    match what {
+        Final::Symbol => match text::split(text) {
+            Symbol::Parts { start, end } => Admitted::Body(start, end),
+            Symbol::Not => Admitted::Refused(Refusal::Prefix, 0),
+        },
+        Final::Type => Admitted::Body(0, text.len()),
+    }
+}
+
+// 1 to 5, in order, for a call that needs that many numbers of workspace a node.
+pub fn admit(text: &[u8], what: Final, ceiling: usize, need: usize, numbers: usize) -> Admitted
+    requires { ⌜ need ≤ 64 ⌝ }
+    ensures { λ r. ⌜ Admits what need ceiling numbers (now (text .entry)) r ⌝ }
+{
+    if ceiling == 0 {
+        return Admitted::Refused(Refusal::Ceiling, 0);
+    }
+    if Budget::MOST_NODES < ceiling {
+        return Admitted::Refused(Refusal::Ceiling, 0);
+    }
+    if numbers < need * ceiling {
+        return Admitted::Refused(Refusal::Workspace, 0);
+    }
+    if 65535 < text.len() {
+        return Admitted::Refused(Refusal::Length, 0);
+    }
+    match text::ill_formed(text) {
+        IllFormed::At(p) => Admitted::Refused(Refusal::Encoding, p),
+        IllFormed::Nowhere => body_of(text, what),
+    }
+}

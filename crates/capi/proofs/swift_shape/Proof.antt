@@ -1,0 +1,30 @@
+use mathlib.Core.Path.{ap, _∙_}
+use Rattle.definition.specs.Calls.{Values}
+use Rattle.capi.specs.Six.{six}
+use Rattle.capi.proofs.SixNumbers.{scratch-told}
+use borrow.Author.Needs.{needs}
+use Rattle.capi.proofs.swift_shape.Statement.{statement}
+use Rattle.capi.proofs.swift_shape.Tie as tie
+use Rattle.capi.proofs.swift_shape.Reads as reads
+use Rattle.capi.proofs.swift_shape.Lts as lts
+use Rattle.capi.proofs.numbers.Reads as numbers-reads
+use Rattle.swift_demangle.proofs.shape.Reads as shape-reads
+
+-- src/lib.rt:76:9
+shape-requires : tie.Need-shape-requires
+shape-requires c κs = search needs
+
+-- src/lib.rt:77:15
+numbers-requires : tie.Need-numbers-requires
+numbers-requires c κs = search needs
+
+-- src/lib.rt:67:1
+same-length : tie.Need-same-length
+same-length c = search needs
+
+-- src/lib.rt:67:1
+returns : tie.Need-returns
+returns c = (c .numbers .ensures ∙ ap six (c .before .before .before .shape .ensures .0), scratch-told (ap (λ (v : Values). v .number) (c .before .before .before .shape .ensures .0)) (c .before .before .before .shape .ensures .1))
+
+pub swift-shape-spec : {M : Type 1} → statement M
+swift-shape-spec = tie.close (tie.spec shape-requires numbers-requires same-length returns)

@@ -1,0 +1,156 @@
+// The eight calls for C and Rust to link. Each has one more parameter, which gets the answer: the refusal's number (0 where the text is
+// accepted), its place, steps, charged total, wraps, and the length of what was written.
+ghost use mathlib.Core.Path.{_≡_};
+ghost use lib.ListN.{length};
+ghost use Rattle.definition.specs.Check as Check;
+ghost use Rattle.definition.specs.Enums.{values};
+ghost use Rattle.definition.specs.Reading as Reading;
+ghost use Rattle.swift_demangle.specs.Calls.{Scratch};
+ghost use Rattle.capi.specs.Six.{six, Told};
+use definition::Answer;
+
+// The answer as six numbers.
+fn numbers(a: Answer) -> [u64; 6]
+    ensures { λ r. ⌜ r ≡ six (values a) ⌝ }
+{
+    match a {
+        Answer::Accepted(counts, length) => [
+            0,
+            0,
+            counts.steps as u64,
+            counts.total as u64,
+            counts.wraps as u64,
+            length as u64,
+        ],
+        Answer::Refused(refusal, place) => [
+            swift_demangle::number(refusal) as u64,
+            place as u64,
+            0,
+            0,
+            0,
+            0,
+        ],
+    }
+}
+
+// Reads a symbol.
+#[no_mangle]
+pub extern "C" fn swift_demangle(
+    text: &[u8],
+    ceiling: usize,
+    workspace: &mut [u32],
+    out: &mut [u8],
+    answer: &mut [u64; 6],
+)
+    ensures { λ _. ⌜ Told (Reading.demangle (now (text .entry)) ceiling (length (now (workspace .entry))) (length (now (out .entry)))) (now (out .entry)) (now (out .exit)) (now (answer .exit)) × Scratch 64 ceiling ((Reading.demangle (now (text .entry)) ceiling (length (now (workspace .entry))) (length (now (out .entry)))) .values .number) (now (workspace .entry)) (now (workspace .exit)) ⌝ }
+{
+    let a = swift_demangle::demangle(text, ceiling, workspace, out);
+    *answer = numbers(a);
+}
+
+// Reads a type.
+#[no_mangle]
+pub extern "C" fn swift_demangle_type(
+    text: &[u8],
+    ceiling: usize,
+    workspace: &mut [u32],
+    out: &mut [u8],
+    answer: &mut [u64; 6],
+)
+    ensures { λ _. ⌜ Told (Reading.demangle-type (now (text .entry)) ceiling (length (now (workspace .entry))) (length (now (out .entry)))) (now (out .entry)) (now (out .exit)) (now (answer .exit)) × Scratch 64 ceiling ((Reading.demangle-type (now (text .entry)) ceiling (length (now (workspace .entry))) (length (now (out .entry)))) .values .number) (now (workspace .entry)) (now (workspace .exit)) ⌝ }
+{
+    let a = swift_demangle::demangle_type(text, ceiling, workspace, out);
+    *answer = numbers(a);
+}
+
+// Checks the shape of a symbol.
+#[no_mangle]
+pub extern "C" fn swift_shape(
+    text: &[u8],
+    ceiling: usize,
+    workspace: &mut [u32],
+    answer: &mut [u64; 6],
+)
+    ensures { λ _. ⌜ (now (answer .exit) ≡ six ((Check.shape (now (text .entry)) ceiling (length (now (workspace .entry)))) .values)) × Scratch 8 ceiling ((Check.shape (now (text .entry)) ceiling (length (now (workspace .entry)))) .values .number) (now (workspace .entry)) (now (workspace .exit)) ⌝ }
+{
+    let a = swift_demangle::shape(text, ceiling, workspace);
+    *answer = numbers(a);
+}
+
+// Checks the shape of a type.
+#[no_mangle]
+pub extern "C" fn swift_shape_type(
+    text: &[u8],
+    ceiling: usize,
+    workspace: &mut [u32],
+    answer: &mut [u64; 6],
+)
+    ensures { λ _. ⌜ (now (answer .exit) ≡ six ((Check.shape-type (now (text .entry)) ceiling (length (now (workspace .entry)))) .values)) × Scratch 8 ceiling ((Check.shape-type (now (text .entry)) ceiling (length (now (workspace .entry)))) .values .number) (now (workspace .entry)) (now (workspace .exit)) ⌝ }
+{
+    let a = swift_demangle::shape_type(text, ceiling, workspace);
+    *answer = numbers(a);
+}
+
+// Reads a symbol's first k operators.
+#[no_mangle]
+pub extern "C" fn swift_demangle_stopped(
+    text: &[u8],
+    ceiling: usize,
+    k: usize,
+    workspace: &mut [u32],
+    out: &mut [u32],
+    answer: &mut [u64; 6],
+)
+    ensures { λ _. ⌜ Told (Reading.demangle-stopped (now (text .entry)) ceiling k (length (now (workspace .entry))) (length (now (out .entry)))) (now (out .entry)) (now (out .exit)) (now (answer .exit)) × Scratch 64 ceiling ((Reading.demangle-stopped (now (text .entry)) ceiling k (length (now (workspace .entry))) (length (now (out .entry)))) .values .number) (now (workspace .entry)) (now (workspace .exit)) ⌝ }
+{
+    let a = swift_demangle::demangle_stopped(text, ceiling, k, workspace, out);
+    *answer = numbers(a);
+}
+
+// Reads a type's first k operators.
+#[no_mangle]
+pub extern "C" fn swift_demangle_type_stopped(
+    text: &[u8],
+    ceiling: usize,
+    k: usize,
+    workspace: &mut [u32],
+    out: &mut [u32],
+    answer: &mut [u64; 6],
+)
+    ensures { λ _. ⌜ Told (Reading.demangle-type-stopped (now (text .entry)) ceiling k (length (now (workspace .entry))) (length (now (out .entry)))) (now (out .entry)) (now (out .exit)) (now (answer .exit)) × Scratch 64 ceiling ((Reading.demangle-type-stopped (now (text .entry)) ceiling k (length (now (workspace .entry))) (length (now (out .entry)))) .values .number) (now (workspace .entry)) (now (workspace .exit)) ⌝ }
+{
+    let a = swift_demangle::demangle_type_stopped(text, ceiling, k, workspace, out);
+    *answer = numbers(a);
+}
+
+// Checks a symbol's first k operators.
+#[no_mangle]
+pub extern "C" fn swift_shape_stopped(
+    text: &[u8],
+    ceiling: usize,
+    k: usize,
+    workspace: &mut [u32],
+    out: &mut [u32],
+    answer: &mut [u64; 6],
+)
+    ensures { λ _. ⌜ Told (Check.shape-stopped (now (text .entry)) ceiling k (length (now (workspace .entry))) (length (now (out .entry)))) (now (out .entry)) (now (out .exit)) (now (answer .exit)) × Scratch 8 ceiling ((Check.shape-stopped (now (text .entry)) ceiling k (length (now (workspace .entry))) (length (now (out .entry)))) .values .number) (now (workspace .entry)) (now (workspace .exit)) ⌝ }
+{
+    let a = swift_demangle::shape_stopped(text, ceiling, k, workspace, out);
+    *answer = numbers(a);
+}
+
+// Checks a type's first k operators.
+#[no_mangle]
+pub extern "C" fn swift_shape_type_stopped(
+    text: &[u8],
+    ceiling: usize,
+    k: usize,
+    workspace: &mut [u32],
+    out: &mut [u32],
+    answer: &mut [u64; 6],
+)
+    ensures { λ _. ⌜ Told (Check.shape-type-stopped (now (text .entry)) ceiling k (length (now (workspace .entry))) (length (now (out .entry)))) (now (out .entry)) (now (out .exit)) (now (answer .exit)) × Scratch 8 ceiling ((Check.shape-type-stopped (now (text .entry)) ceiling k (length (now (workspace .entry))) (length (now (out .entry)))) .values .number) (now (workspace .entry)) (now (workspace .exit)) ⌝ }
+{
+    let a = swift_demangle::shape_type_stopped(text, ceiling, k, workspace, out);
+    *answer = numbers(a);
+}
