@@ -19,7 +19,7 @@ use Rattle.definition.specs.declared.Refusal.the-variants as Refusal
 use Rattle.definition.proofs.SameText.{passed, failed}
 use Rattle.runs.specs.declared.Final.{Final}
 use Rattle.runs.specs.declared.Final.the-variants as Final
-use Rattle.text.specs.Symbol as Symbols
+use Rattle.symbols.specs.Symbol as Symbols
 use Rattle.admission.specs.Admits.{framed, Body, Refused, Frames, Bounds, Admits}
 use Rattle.admission.specs.declared.Admitted.{Admitted}
 use Rattle.admission.specs.declared.Admitted.the-variants as Admitted

@@ -7,7 +7,7 @@ use Rattle.definition.specs.Calls as Calls
 use Rattle.definition.specs.Calls.{refusal, checked, symbol, whole-text}
 use Rattle.definition.specs.Enums.{number}
 use Rattle.definition.specs.declared.Refusal.{Refusal}
-use Rattle.text.specs.Symbol as Symbols
+use Rattle.symbols.specs.Symbol as Symbols
 use Rattle.runs.specs.declared.Final.{Final}
 use Rattle.runs.specs.declared.Final.the-variants as Final
 use Rattle.admission.specs.declared.Admitted.{Admitted}

@@ -4,8 +4,8 @@ ghost use Rattle.admission.specs.Admits.{framed, Frames, Admits};
 use budget::Budget;
 use definition::Refusal;
 use runs::Final;
-use text::IllFormed;
-use text::Symbol;
+use symbols::Symbol;
+use utf8::IllFormed;
 
 // The body is text[start..end]; or the text is refused before a run, at a place.
 pub enum Admitted {
@@ -18,7 +18,7 @@ fn body_of(text: &[u8], what: Final) -> Admitted
     ensures { λ r. ⌜ Frames (framed what (now (text .entry))) (now (text .entry)) r ⌝ }
 {
     match what {
-        Final::Symbol => match text::split(text) {
+        Final::Symbol => match symbols::split(text) {
             Symbol::Parts { start, end } => Admitted::Body(start, end),
             Symbol::Not => Admitted::Refused(Refusal::Prefix, 0),
         },
@@ -43,7 +43,7 @@ pub fn admit(text: &[u8], what: Final, ceiling: usize, need: usize, numbers: usi
     if 65535 < text.len() {
         return Admitted::Refused(Refusal::Length, 0);
     }
-    match text::ill_formed(text) {
+    match utf8::ill_formed(text) {
         IllFormed::At(p) => Admitted::Refused(Refusal::Encoding, p),
         IllFormed::Nowhere => body_of(text, what),
     }

@@ -48,7 +48,7 @@ use Rattle.runs.specs.declared.Written.{Written}
 use Rattle.runs.specs.declared.Written.the-variants as Written
 use Rattle.printing.specs.Answers.{Shown, Rendered}
 use Rattle.printing.specs.Pieces.{World, Prints}
-use Rattle.text.specs.Symbol as Symbols
+use Rattle.symbols.specs.Symbol as Symbols
 use Rattle.words.specs.declared.Words.{Words}
 use Rattle.answers.specs.Answers.{Answers, Measured, Stacked, Held, Finishes}
 

@@ -22,7 +22,7 @@ use Rattle.definition.specs.declared.Refusal.{Refusal}
 use Rattle.definition.proofs.SameText.{both}
 use Rattle.definition.proofs.RunNumbers.{InRun, read-numbers, check-numbers}
 use Rattle.runs.specs.declared.Final.{Final}
-use Rattle.text.specs.Symbol as Symbols
+use Rattle.symbols.specs.Symbol as Symbols
 use Rattle.admission.specs.Admits.{framed, Body, Refused, Bounds, Admits}
 use Rattle.admission.specs.declared.Admitted.{Admitted}
 use Rattle.admission.specs.declared.Admitted.the-variants as Admitted

@@ -1,7 +1,7 @@
 use mathlib.Core.Path.{subst}
 use native.Mathlib.Omega.{arith}
 use Rattle.definition.specs.Text.{ill-formed}
-use Rattle.text.specs.Utf8.{Placed}
+use Rattle.utf8.specs.Utf8.{Placed}
 use Rattle.admission.proofs.Tests.{needed, ceiling-zero, ceiling-past, workspace-short, text-long, text-ill-formed, well-formed}
 use borrow.Author.Needs.{needs}
 use Rattle.admission.proofs.admit.Statement.{statement}
@@ -9,7 +9,7 @@ use Rattle.admission.proofs.admit.Tie as tie
 use Rattle.admission.proofs.admit.Reads as reads
 use Rattle.admission.proofs.admit.Lts as lts
 use Rattle.admission.proofs.body_of.Reads as body-of-reads
-use Rattle.text.proofs.ill_formed.Reads as ill-formed-reads
+use Rattle.utf8.proofs.ill_formed.Reads as ill-formed-reads
 
 -- src/lib.rt:35:9
 returns : tie.Need-returns

@@ -1,13 +1,13 @@
 use mathlib.Core.Path.{subst}
 use Rattle.definition.specs.Text.{split}
-use Rattle.text.specs.Symbol.{SplitIs}
+use Rattle.symbols.specs.Symbol.{SplitIs}
 use Rattle.admission.proofs.Tests.{symbol-parts, symbol-not, type-whole}
 use borrow.Author.Needs.{needs}
 use Rattle.admission.proofs.body_of.Statement.{statement}
 use Rattle.admission.proofs.body_of.Tie as tie
 use Rattle.admission.proofs.body_of.Reads as reads
 use Rattle.admission.proofs.body_of.Lts as lts
-use Rattle.text.proofs.split.Reads as split-reads
+use Rattle.symbols.proofs.split.Reads as split-reads
 
 -- src/lib.rt:21:32
 enum-told : tie.Need-enum-told
