@@ -19,7 +19,7 @@ use Rattle.text.specs.declared.Cursor.{Cursor}
 use Rattle.text.proofs.Steps.{front}
 use Rattle.entries.specs.Lies.{machine-of}
 use Rattle.entries.specs.declared.State.{State}
-use Rattle.operators.specs.Fixed.{fixed}
+use Rattle.fixed_names.specs.Fixed.{fixed}
 use Rattle.operators.specs.Answers.{Stands, Begun, OpensChain}
 use Rattle.operators.specs.declared.OperatorRead.{OperatorRead}
 use Rattle.operators.specs.declared.OperatorRead.the-variants as OperatorRead

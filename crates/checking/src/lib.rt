@@ -10,7 +10,7 @@ ghost use Rattle.definition.specs.Enums as Enums;
 ghost use Rattle.definition.specs.Shape as C;
 ghost use Rattle.entries.specs.Lies.{stack-of};
 ghost use Rattle.operators.specs.Chain.{chain, outcome};
-ghost use Rattle.operators.specs.Fixed.{fixed};
+ghost use Rattle.fixed_names.specs.Fixed.{fixed};
 ghost use Rattle.shape.specs.Performs.{Sound};
 ghost use Rattle.checking.specs.Runs.{performs, Letters, Performed, Turning, Ending};
 ghost use Rattle.runs.specs.Ends.{kinds-of, Writing};

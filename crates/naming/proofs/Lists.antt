@@ -10,8 +10,8 @@ use lib.ListN.{length, getD, take, drop}
 use Rattle.definition.specs.Base.{Name, bytes, decimal}
 use Rattle.definition.specs.Operators.{suspend-resume-text}
 use Rattle.definition.specs.Base.{opened as opened₀}
-use Rattle.operators.specs.Fixed.{joined}
-use Rattle.operators.proofs.FixedNames.{starts, lengths, part, inside}
+use Rattle.fixed_names.specs.Fixed.{joined}
+use Rattle.fixed_names.proofs.FixedNames.{starts, lengths, part, inside}
 use Rattle.definition.specs.Print.{join, generic-param-name, param-names, effects}
 use Rattle.output.specs.Sink.{Room, Wrote, Rest, rest-start, rest-then, rest-is, rest-end, rest-past}
 use Rattle.naming.specs.Texts.{texts, text-of, all-texts, size, sep-before}

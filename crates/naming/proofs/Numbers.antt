@@ -17,7 +17,7 @@ use Rattle.definition.specs.Words.{opened as opened₁}
 use Rattle.words.specs.Table.{table, Fitting}
 use Rattle.words.specs.declared.Words.{Words}
 use Rattle.definition.proofs.SameText.{both}
-use Rattle.operators.specs.Fixed.{fixed-names, fixed}
+use Rattle.fixed_names.specs.Fixed.{fixed-names, fixed}
 use Rattle.output.specs.Sink.{Room, Wrote, wrote-is}
 use Rattle.spelling.specs.Spelled.{Spells, Appended}
 use Rattle.records.specs.Holds.{Names, Named, spelled}

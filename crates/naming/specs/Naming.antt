@@ -8,9 +8,9 @@ use Rattle.definition.specs.Base.{Name, bytes, same}
 use Rattle.definition.specs.Text.{Text}
 use Rattle.words.specs.Table.{table, Fitting}
 use Rattle.words.specs.declared.Words.{Words}
-use Rattle.operators.specs.Fixed.{fixed}
+use Rattle.fixed_names.specs.Fixed.{fixed}
 use Rattle.output.specs.Sink.{Room, Wrote}
-use Rattle.operators.proofs.FixedNames.{fixed-swift, fixed-any-object, fixed-optional, fixed-associated-type, fixed-past}
+use Rattle.fixed_names.proofs.FixedNames.{fixed-swift, fixed-any-object, fixed-optional, fixed-associated-type, fixed-past}
 use Rattle.records.specs.Holds.{Fixed, Names}
 
 -- the fixed names that operators use of themselves are among the fixed names

@@ -5,7 +5,7 @@ use Prim.Native.Nat.{ℕ, zero, suc, _+_, _≤_}
 use Prim.Native.String.{String}
 use lib.ListN.{length, getD, take, drop}
 use Rattle.definition.specs.Base.{Name, bytes}
-use Rattle.operators.specs.Fixed.{joined}
+use Rattle.fixed_names.specs.Fixed.{joined}
 use Rattle.naming.specs.declared.Span.{Span}
 
 -- in the order of their numbers

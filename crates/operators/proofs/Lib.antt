@@ -1,4 +1,3 @@
-pub mod FixedNames
 pub mod Places
 pub mod Table
 pub mod Rows

@@ -15,7 +15,7 @@ use Rattle.definition.specs.Operators.{opened as opened₀}
 use Rattle.definition.specs.Base.{pick}
 use Rattle.definition.specs.Node.{NominalKind}
 use Rattle.definition.specs.Operators.{standard-modules, standard-types, requirements, accessors, value-witnesses}
-use Rattle.operators.specs.Fixed.{fixed-names, fixed}
+use Rattle.fixed_names.specs.Fixed.{fixed-names, fixed}
 use Rattle.operators.specs.Letters.{letters, entries, place}
 use Rattle.operators.specs.Operands.{standard-kind, on-target, requirement-kind, flattened, witness-names}
 use Rattle.operators.proofs.Places.{pick-place, entry}

@@ -10,7 +10,7 @@ use borrow.Author.Tests.{le-ltb}
 use lib.Dec.{T, ltb, leb, ltb→lt, leb→le}
 use lib.ListN.{length, getD, getElem?}
 use Rattle.definition.specs.Operators.{opened as opened₀}
-use Rattle.operators.specs.Fixed.{fixed-names, fixed}
+use Rattle.fixed_names.specs.Fixed.{fixed-names, fixed}
 use Rattle.operators.specs.Letters.{entries}
 use Rattle.operators.specs.Tables.{lifted, first-letters, row-table, simples, steps, meaning, kinds-below}
 use Rattle.operators.proofs.Table.{every, at}

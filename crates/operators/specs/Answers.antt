@@ -9,7 +9,7 @@ use Rattle.definition.specs.Text.{Text}
 use Rattle.definition.specs.Operators as Op
 use Rattle.definition.specs.Enums as Enums
 use Rattle.text.specs.declared.Cursor.{Cursor}
-use Rattle.operators.specs.Fixed.{fixed}
+use Rattle.fixed_names.specs.Fixed.{fixed}
 use Rattle.operators.specs.declared.OperatorRead.{OperatorRead}
 use Rattle.operators.specs.declared.OperatorRead.the-variants as OperatorRead
 use Rattle.operators.specs.declared.SubjectRead.{SubjectRead}

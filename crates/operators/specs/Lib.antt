@@ -1,4 +1,3 @@
-pub mod Fixed
 pub mod Letters
 pub mod Operands
 pub mod Tables

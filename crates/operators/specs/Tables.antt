@@ -11,7 +11,7 @@ use Rattle.definition.specs.Base.{if_then_else_, bytes, is, pick, ret, refuse, 
 use Rattle.definition.specs.Text.{Lex, param, next}
 use Rattle.definition.specs.Node.{Class, Struct, Enum, Protocol, TypeAlias}
 use Rattle.definition.specs.Operators.{Operator, a-type, an-entity, a-context, a-protocol, a-conformance, anything, module-named, standard-nominal, generic-param, empty-list, first-element-marker, variadic-marker, throws, async, nominal, leaf, tuple, function-type, protocol-list, bound-generic, in-out, metatype, generic-signature, plain-function, initializer, deinitializer, variable-initializer, static, record-of, lazy-witness, protocol-witness, associated-type, associated-conformance, choose, choose-then, standard-letters, special-types, async-types, requirement-letters, function-entities, context-descriptors, metatype-records, field-offsets, witnesses, value-witness-letters, suspend-resume, thunks, operators}
-use Rattle.operators.specs.Fixed.{fixed}
+use Rattle.fixed_names.specs.Fixed.{fixed}
 use Rattle.operators.specs.Letters.{entries}
 use Rattle.operators.specs.Operands.{generic-param-letters, archetype-letters, signature-letters, variable-letters}
 use Rattle.operators.specs.declared.Coded.{Coded}

@@ -9,15 +9,13 @@ ghost use Rattle.definition.specs.Text as Text;
 ghost use Rattle.definition.specs.Operators as Op;
 ghost use Rattle.definition.specs.Enums as Enums;
 ghost use Rattle.text.specs.Cursor.{Numbered};
-ghost use Rattle.operators.specs.Fixed.{fixed};
+ghost use Rattle.fixed_names.specs.Fixed.{fixed};
 ghost use Rattle.operators.specs.Letters.{place};
 ghost use Rattle.operators.specs.Tables.{row-table, meaning, picked, step-at, any-byte, Row, Searched};
 ghost use Rattle.operators.specs.Operands.{standard-kind, standard-type-letter, repeated, generic-param-letters, archetype-letters, archetype-letter, archetype-of, signature-letters, variable-letters, accessor-late, on-target, requirement-kind, layout-letter, witness-names, witness-name, witness-pair, witness-second, count};
 ghost use Rattle.definition.specs.declared.Operator.the-variants as Operator;
 ghost use Rattle.operators.specs.Chain.{Same, times-of, past-of, chain-after, chain, Copied};
 ghost use Rattle.operators.specs.Answers.{Operated, Subjected, Turned, Begun};
-
-pub mod names;
 
 use definition::About;
 use definition::Accessor;

@@ -29,7 +29,7 @@ use Rattle.budget.specs.declared.Budget.{Budget}
 use Rattle.budget.proofs.Charging.{charge-room, charged-to}
 use Rattle.text.specs.declared.Cursor.{Cursor}
 use Rattle.text.proofs.Steps.{front, peek-read}
-use Rattle.operators.specs.Fixed.{fixed}
+use Rattle.fixed_names.specs.Fixed.{fixed}
 use Rattle.operators.specs.Answers.{Stands, Begun, OpensChain}
 use Rattle.operators.specs.declared.OperatorRead.{OperatorRead}
 use Rattle.operators.specs.declared.OperatorRead.the-variants as OperatorRead

@@ -2,7 +2,7 @@
 use mathlib.Core.Path.{refl}
 use Rattle.definition.specs.Shape as C
 use Rattle.definition.specs.Enums as Enums
-use Rattle.operators.specs.Fixed.{fixed}
+use Rattle.fixed_names.specs.Fixed.{fixed}
 use Rattle.shape.proofs.Sounds.{sound-row}
 use Rattle.checking.proofs.Answers.{was-done, was-not-done}
 use borrow.Author.Needs.{needs}

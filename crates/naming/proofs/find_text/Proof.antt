@@ -1,7 +1,7 @@
 -- `naming::find_text` meets its contract: the two tables are the starts and the lengths of the texts. Assumes nothing.
 use Rattle.definition.specs.Base.{opened as opened₀}
 use Rattle.naming.specs.Texts.{texts}
-use Rattle.operators.proofs.FixedNames.{starts, lengths}
+use Rattle.fixed_names.proofs.FixedNames.{starts, lengths}
 use Rattle.naming.proofs.Lists.{stands, stands-inside}
 use borrow.Author.Needs.{needs}
 use Rattle.naming.proofs.find_text.Statement.{statement}

@@ -1,14 +1,14 @@
 -- `naming::put_fixed` meets its contract. Assumes nothing.
 use Rattle.definition.specs.Base.{opened as opened₀}
 use Rattle.output.specs.Sink.{wrote-is}
-use Rattle.operators.specs.Fixed.{fixed-names, joined, names}
+use Rattle.fixed_names.specs.Fixed.{fixed-names, joined, names}
 use Rattle.naming.proofs.Lists.{same-part}
 use borrow.Author.Needs.{needs}
 use Rattle.naming.proofs.put_fixed.Statement.{statement}
 use Rattle.naming.proofs.put_fixed.Tie as tie
 use Rattle.naming.proofs.put_fixed.Reads as reads
 use Rattle.naming.proofs.put_fixed.Lts as lts
-use Rattle.operators.proofs.names.fixed_name.Reads as fixed-name-reads
+use Rattle.fixed_names.proofs.fixed_name.Reads as fixed-name-reads
 use Rattle.output.proofs.put_part.Reads as put-part-reads
 
 fixed-name-requires : tie.Need-fixed-name-requires

@@ -1,7 +1,7 @@
 -- `naming::put_text` meets its contract. Assumes nothing.
 use Rattle.definition.specs.Base.{opened as opened₀}
 use Rattle.output.specs.Sink.{wrote-is}
-use Rattle.operators.specs.Fixed.{joined}
+use Rattle.fixed_names.specs.Fixed.{joined}
 use Rattle.naming.specs.Texts.{texts, all-texts}
 use Rattle.naming.proofs.Lists.{same-part}
 use borrow.Author.Needs.{needs}

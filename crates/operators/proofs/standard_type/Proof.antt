@@ -10,7 +10,7 @@ use Rattle.definition.specs.Operators.{opened as opened₀}
 use Rattle.definition.specs.Operators.{standard-types, standard, standard-nominal}
 use Rattle.definition.specs.Enums.{number}
 use Rattle.definition.specs.Enums as Enums
-use Rattle.operators.specs.Fixed.{fixed}
+use Rattle.fixed_names.specs.Fixed.{fixed}
 use Rattle.operators.specs.Letters.{letters, place}
 use Rattle.operators.specs.Letters.{entries}
 use Rattle.operators.proofs.OperandTables.{pick-at, pick-none, standard-kinds, standard-at}

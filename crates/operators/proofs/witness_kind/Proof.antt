@@ -9,7 +9,7 @@ use Rattle.definition.specs.Operators.{opened as opened₀}
 use Rattle.definition.specs.Operators.{value-witness}
 use Rattle.definition.specs.Enums.{number}
 use Rattle.definition.specs.Enums as Enums
-use Rattle.operators.specs.Fixed.{fixed}
+use Rattle.fixed_names.specs.Fixed.{fixed}
 use Rattle.operators.specs.Letters.{letters, place}
 use Rattle.operators.specs.Letters.{entries}
 use Rattle.operators.specs.Operands.{flattened, witness-names}

@@ -1,5 +1,5 @@
 // The fixed names: every text that an operator brings by itself.
-ghost use Rattle.operators.specs.Fixed.{Named};
+ghost use Rattle.fixed_names.specs.Fixed.{Named};
 
 // A part of the fixed names' bytes.
 pub struct Part {

@@ -5,7 +5,7 @@ use Prim.Native.Nat.{ℕ, _+_, _≤_}
 use Prim.Native.String.{String}
 use lib.ListN.{length, getD, take, drop}
 use Rattle.definition.specs.Base.{Name, bytes}
-use Rattle.operators.specs.declared.names.Part.{Part}
+use Rattle.fixed_names.specs.declared.Part.{Part}
 
 -- in the order of their numbers
 unfoldable pub fixed-names : List String

@@ -9,7 +9,7 @@ use lib.ListN.{List·getD-eq-default, length, getD, take, drop, length-append}
 use lib.Seq.{take-append-seam, drop-append-add}
 use Rattle.definition.specs.Base.{bytes}
 use Rattle.definition.specs.Base.{opened as opened₀}
-use Rattle.operators.specs.Fixed.{fixed-names, fixed, joined, names, count, size}
+use Rattle.fixed_names.specs.Fixed.{fixed-names, fixed, joined, names, count, size}
 
 -- where each name starts, the first at p, and how long each is
 unfoldable pub starts : ℕ → List String → List ℕ

@@ -1,11 +1,11 @@
--- `operators::names::fixed_name` meets its contract: the two tables are the starts and the lengths of the fixed names. Assumes nothing.
+-- `fixed_names::fixed_name` meets its contract: the two tables are the starts and the lengths of the fixed names. Assumes nothing.
 use Rattle.definition.specs.Base.{opened as opened₀}
-use Rattle.operators.specs.Fixed.{fixed-names}
-use Rattle.operators.proofs.FixedNames.{starts, lengths, named, named-inside, names-size, unnamed}
+use Rattle.fixed_names.specs.Fixed.{fixed-names}
+use Rattle.fixed_names.proofs.FixedNames.{starts, lengths, named, named-inside, names-size, unnamed}
 use borrow.Author.Needs.{needs}
 use native.Mathlib.Omega.{arith}
-use Rattle.operators.proofs.names.fixed_name.Statement.{statement}
-use Rattle.operators.proofs.names.fixed_name.Tie as tie
+use Rattle.fixed_names.proofs.fixed_name.Statement.{statement}
+use Rattle.fixed_names.proofs.fixed_name.Tie as tie
 
 mul-t4 : tie.Need-mul-t4
 mul-t4 c = search needs
