@@ -18,9 +18,9 @@ use Rattle.definition.specs.declared.Refusal.{Refusal}
 use Rattle.text.specs.declared.Cursor.{Cursor}
 use Rattle.entries.specs.Lies.{machine-of}
 use Rattle.entries.specs.declared.State.{State}
-use Rattle.operators.specs.Chain.{Chain, ended, more, chain, outcome, Same, Begins, Ends, Breaks, Copied}
-use Rattle.operators.specs.declared.SubstitutionRead.{SubstitutionRead}
-use Rattle.operators.specs.declared.SubstitutionRead.the-variants as SubstitutionRead
+use Rattle.substitutions.specs.Chain.{Chain, ended, more, chain, outcome, Same, Begins, Ends, Breaks, Copied}
+use Rattle.substitutions.specs.declared.SubstitutionRead.{SubstitutionRead}
+use Rattle.substitutions.specs.declared.SubstitutionRead.the-variants as SubstitutionRead
 use Rattle.runs.proofs.Turns.{regroup}
 use Rattle.shape.specs.Performs.{Outside, Wrote, Failed, Sound, recall-copies}
 use Rattle.shape.proofs.Stores.{outside-both, outside-none}

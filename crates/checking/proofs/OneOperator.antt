@@ -20,10 +20,11 @@ use Rattle.text.proofs.Steps.{front}
 use Rattle.entries.specs.Lies.{machine-of}
 use Rattle.entries.specs.declared.State.{State}
 use Rattle.fixed_names.specs.Fixed.{fixed}
-use Rattle.operators.specs.Answers.{Stands, Begun, OpensChain}
-use Rattle.operators.specs.declared.OperatorRead.{OperatorRead}
-use Rattle.operators.specs.declared.OperatorRead.the-variants as OperatorRead
-use Rattle.operators.proofs.ChainLaws.{operator-chain}
+use Rattle.letters.specs.Answers.{Stands}
+use Rattle.operators.specs.Answers.{Begun, OpensChain}
+use Rattle.letters.specs.declared.OperatorRead.{OperatorRead}
+use Rattle.letters.specs.declared.OperatorRead.the-variants as OperatorRead
+use Rattle.substitutions.proofs.ChainLaws.{operator-chain}
 use Rattle.shape.specs.Performs.{Sound}
 use Rattle.checking.specs.Runs.{Refuses, Turning, Performed, performs, chained}
 use Rattle.checking.specs.declared.Turned.{Turned}

@@ -16,7 +16,7 @@ use Rattle.definition.specs.declared.Refusal.{Refusal}
 use Rattle.text.specs.declared.Cursor.{Cursor}
 use Rattle.entries.specs.Lies.{machine-of}
 use Rattle.entries.specs.declared.State.{State}
-use Rattle.operators.specs.Chain.{chain, outcome}
+use Rattle.substitutions.specs.Chain.{chain, outcome}
 use Rattle.shape.specs.Performs.{Outside, Wrote, Failed, Sound}
 use Rattle.checking.specs.declared.Turned.{Turned}
 use Rattle.checking.specs.declared.Turned.the-variants as Turned

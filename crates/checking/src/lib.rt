@@ -9,7 +9,7 @@ ghost use Rattle.definition.specs.Check as Ch;
 ghost use Rattle.definition.specs.Enums as Enums;
 ghost use Rattle.definition.specs.Shape as C;
 ghost use Rattle.entries.specs.Lies.{stack-of};
-ghost use Rattle.operators.specs.Chain.{chain, outcome};
+ghost use Rattle.substitutions.specs.Chain.{chain, outcome};
 ghost use Rattle.fixed_names.specs.Fixed.{fixed};
 ghost use Rattle.shape.specs.Performs.{Sound};
 ghost use Rattle.checking.specs.Runs.{performs, Letters, Performed, Turning, Ending};
@@ -19,11 +19,11 @@ use budget::Spent;
 use definition::Operator;
 use definition::Refusal;
 use entries::State;
-use operators::OperatorRead;
-use operators::SubstitutionRead;
+use letters::OperatorRead;
 use runs::Final;
 use runs::Written;
 use shape::Step;
+use substitutions::SubstitutionRead;
 use text::Cursor;
 use words::CountRead;
 
@@ -53,7 +53,7 @@ fn item(text: &[u8], c: Cursor, ws: &mut [u32], ceiling: usize, st: State) -> Le
     requires { ⌜ Sound 0 ceiling (now ws) st ⌝ }
     ensures { λ r. ⌜ Letters ceiling (now (text .entry)) (c .at) (now (ws .entry)) (now (ws .exit)) st r ⌝ }
 {
-    match operators::substitution(text, c) {
+    match substitutions::substitution(text, c) {
         SubstitutionRead::Copies(times, index, last, next) => {
             match shape::recall(ws, ceiling, st, times, index) {
                 Step::Done(u) => {

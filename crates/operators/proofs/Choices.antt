@@ -13,35 +13,16 @@ use Rattle.definition.specs.Base.{if_then_else_, given, Out, ok, refused, pick,
 use Rattle.definition.specs.Text.{Text, Lex, next}
 use Rattle.definition.specs.Operators.{Operator, choose, choose-then, operator, operators, substitutions-letters, async-types, function-entities, context-descriptors, field-offsets, special-types, metatype-records, witnesses, thunks}
 use Rattle.definition.specs.Operators.{opened as opened₀}
-use Rattle.definition.specs.Enums.{number}
-use Rattle.definition.specs.declared.Refusal.{Refusal}
-use Rattle.text.specs.Cursor.{Byted}
-use Rattle.text.specs.declared.Cursor.{Cursor}
-use Rattle.text.specs.declared.Byte.{Byte}
-use Rattle.text.specs.declared.Byte.the-variants as Byte
 use Rattle.operators.specs.Tables.{lifted, first-letters, row-table, meaning, kinds-below, picked, step-at, Row, Searched, At}
-use Rattle.operators.specs.Answers.{Stands, Operated, Begun}
-use Rattle.operators.proofs.Places.{pick-later}
+use Rattle.letters.specs.Answers.{Operated}
+use Rattle.operators.specs.Answers.{Begun}
+use Rattle.letters.proofs.Places.{pick-later}
 use Rattle.operators.proofs.Rows.{kind-is}
-use Rattle.operators.specs.declared.OperatorRead.{OperatorRead}
-use Rattle.operators.specs.declared.OperatorRead.the-variants as OperatorRead
+use Rattle.letters.specs.declared.OperatorRead.{OperatorRead}
+use Rattle.letters.specs.declared.OperatorRead.the-variants as OperatorRead
 use Rattle.operators.specs.declared.Coded.{Coded}
 use Rattle.operators.specs.declared.Found.{Found}
 use Rattle.operators.specs.declared.Found.the-variants as Found
-
--- ANSWERS
--- an answer to a step is one to a step with the same outcome, from an earlier place
-pub operated-is : (text : Text) {o o′ : Out Text Operator} {least least′ : ℕ} → o ≡ o′ → least ≤ least′ → (r : OperatorRead) → Operated o′ text least′ r → Operated o text least r
-operated-is text e l (OperatorRead.Read q c) h = record { is = e ∙ h .is; inside = h .inside; onward = omega arith }
-operated-is text e l (OperatorRead.Substitutions c) h = h
-operated-is text e l (OperatorRead.Refused f) h = e ∙ h
-
--- what the answer says that a match took apart
-pub byte-read : (text : Text) (from : ℕ) {o : Out Text ℕ} {r : Byte} {b : ℕ} {c : Cursor} → r ≡ Byte.Read b c → Byted o text from r → Stands o b text (from + 1) c
-byte-read text from {o} e h = let b = subst (Byted o text from) e h in record { is = b .is; inside = b .inside; onward = b .onward }
-
-pub byte-refused : (text : Text) (from : ℕ) {o : Out Text ℕ} {r : Byte} {f : Refusal} → r ≡ Byte.Refused f → Byted o text from r → o ≡ refused (number f)
-byte-refused text from {o} e h = subst (Byted o text from) e h
 
 module _ (b start count : ℕ) {r : Found} where
   pub found-at : {n : ℕ} → r ≡ Found.At n → Searched b start count r → At b start count n

@@ -1,17 +1,14 @@
 -- The steps that read operands, at a place of a text. Assumes nothing.
 use mathlib.Core.Path.{_≡_, refl, sym, ap, subst, _∙_}
-use mathlib.Core.Bool.{Bool, true, false, _&&_}
 use mathlib.Core.List.{List, [], _∷_}
 use mathlib.Core.Option.{Option, some, none}
-use Prim.Native.Nat.{ℕ, suc, _+_, _/_, _%_, _^_, _≤_, _<_}
+use Prim.Native.Nat.{ℕ, _+_, _/_, _%_, _≤_, _<_}
 use Prim.Native.Char.{Char}
 use Prim.Native.String.{String}
-use borrow.Author.Tests.{lt-ltb, le-leb, lt-leb, eq-eqb, ne-eqb}
-use lib.Dec.{ltb, leb}
 use lib.ListN.{length, getD, drop, List·getD-eq-default}
-use Rattle.definition.specs.Base.{if_then_else_, given, Out, ok, refused, is, digit, pick, and-then, or-refuse, ret, refuse, good, bad}
-use Rattle.definition.specs.Text.{Text, Lex, Param, next, next-if, natural, peek, index-plus-one}
-use Rattle.definition.specs.Operators.{Operator, Subject, optional, standard, module-named, standard-letter, standard-letters, standard-modules, archetypes, requirements, requirement-letters, requiring, requiring-layout, conforms, superclass, same-type, on-param, on-member, of-stack, layouts, choose, choose-then, choose-late, counts, variable, accessors, value-witness-letters}
+use Rattle.definition.specs.Base.{given, Out, ok, refused, pick, and-then, ret, refuse, good, bad}
+use Rattle.definition.specs.Text.{Text, Lex, Param, next}
+use Rattle.definition.specs.Operators.{Operator, Subject, archetypes, requirements, requirement-letters, requiring, requiring-layout, conforms, superclass, same-type, on-param, on-member, of-stack, layouts, choose, choose-then, choose-late, variable, accessors, value-witness-letters}
 use Rattle.definition.specs.Enums.{number}
 use Rattle.definition.specs.Enums as Enums
 use Rattle.definition.specs.declared.Refusal.{Refusal}
@@ -22,13 +19,12 @@ use Rattle.text.specs.Cursor.{Parameter}
 use Rattle.text.specs.declared.Cursor.{Cursor}
 use Rattle.text.specs.declared.ParamRead.{ParamRead}
 use Rattle.text.specs.declared.ParamRead.the-variants as ParamRead
-use Rattle.operators.specs.Operands.{standard-type-letter, repeated, archetype-letters, archetype-letter, on-target, requirement-kind, layout-letter, next-count, count-unless, count, accessor-late, witness-second}
-use Rattle.operators.proofs.Places.{absent}
-use Rattle.operators.specs.Answers.{Stands, Subjected, Turned, Counted}
+use Rattle.operators.specs.Operands.{archetype-letters, archetype-letter, on-target, requirement-kind, layout-letter, accessor-late, witness-second}
+use Rattle.letters.proofs.Places.{absent}
+use Rattle.letters.specs.Answers.{Stands}
+use Rattle.operators.specs.Answers.{Subjected}
 use Rattle.operators.specs.declared.SubjectRead.{SubjectRead}
 use Rattle.operators.specs.declared.SubjectRead.the-variants as SubjectRead
-use Rattle.operators.specs.declared.CountRead.{CountRead}
-use Rattle.operators.specs.declared.CountRead.the-variants as CountRead
 
 -- WHAT AN ANSWER SAYS THAT A MATCH TOOK APART
 module _ (text : Text) (from : ℕ) where
@@ -44,71 +40,9 @@ module _ (text : Text) (from : ℕ) where
   pub subject-refused : {f : Refusal} {o : Out Text Subject} {r : SubjectRead} → r ≡ SubjectRead.Refused f → Subjected o text from r → o ≡ refused (number f)
   subject-refused {o = o} e h = subst (Subjected o text from) e h
 
-  pub count-closed : {o : Out Text (Option ℕ)} {r : CountRead} {c : Cursor} → r ≡ CountRead.Closed c → Turned o text from r → Stands o none text (from + 1) c
-  count-closed {o} e h = subst (Turned o text from) e h
-
-  pub count-more : {o : Out Text (Option ℕ)} {r : CountRead} {n : ℕ} {c : Cursor} → r ≡ CountRead.Count n c → Turned o text from r → Counted o n text (from + 1) c
-  count-more {o} e h = subst (Turned o text from) e h
-
-  pub count-refused : {f : Refusal} {o : Out Text (Option ℕ)} {r : CountRead} → r ≡ CountRead.Refused f → Turned o text from r → o ≡ refused (number f)
-  count-refused {o = o} e h = subst (Turned o text from) e h
-
 pub subjected-is : (text : Text) (least : ℕ) {o o′ : Out Text Subject} → o ≡ o′ → (r : SubjectRead) → Subjected o′ text least r → Subjected o text least r
 subjected-is text least e (SubjectRead.Read s c) h = record { is = e ∙ h .is; inside = h .inside; onward = h .onward }
 subjected-is text least e (SubjectRead.Refused f) h = e ∙ h
-
--- A VALUE OR A REFUSAL
-module _ {A B : Type 0} (f : A → Text → Out Text B) (t : Text) where
-  pub or-some : {o : Option A} {a : A} → o ≡ some a → and-then (or-refuse 9 o t) f ≡ f a t
-  or-some e = ap (λ o. and-then (or-refuse 9 o t) f) e
-
-  pub or-none : {o : Option A} → o ≡ none → and-then (or-refuse 9 o t) f ≡ refused 9
-  or-none e = ap (λ o. and-then (or-refuse 9 o t) f) e
-
--- `S`
-module _ (repeat b : ℕ) (t : Text) where
-  pub standard-optional : b ≡ 103 → standard-letter repeat b t ≡ ok (optional repeat) t
-  unfolding standard-letter
-  standard-optional e = rw (standard-letter, eq-eqb b 103 e)
-
-  module _ (n : b ≡ 103 → ⊥) where
-    pub standard-module : {m : String} → pick b standard-modules ≡ some m → standard-letter repeat b t ≡ ok (standard repeat (module-named m)) t
-    unfolding standard-letter
-    standard-module e = rw (standard-letter, ne-eqb b 103 n, e)
-
-    pub standard-other : pick b standard-modules ≡ none → standard-letter repeat b t ≡ standard-type-letter repeat b t
-    unfolding standard-letter
-    standard-other e = rw (standard-letter, ne-eqb b 103 n, e)
-
-and-false : (a : Bool) → (a && false) ≡ false
-and-false true = refl
-and-false false = refl
-
-module _ (n : ℕ) (t : Text) where
-  in-limits : 0 < n → n ≤ 4096 → (ltb 0 n && leb n 4096) ≡ true
-  in-limits h k = rw (lt-ltb 0 n h, le-leb n 4096 k)
-
-  pub repeated-zero : n ≡ 0 → repeated n t ≡ refused 9
-  repeated-zero e = ap (λ (k : ℕ). repeated k t) e
-
-  pub repeated-large : 4096 < n → repeated n t ≡ refused 9
-  repeated-large h = let e : (ltb 0 n && leb n 4096) ≡ false = rw (lt-leb n 4096 h) (and-false (ltb 0 n)) in rw e
-
-  module _ (h : 0 < n) (k : n ≤ 4096) where
-    pub repeated-read : {b : ℕ} {u : Text} → next t ≡ ok b u → repeated n t ≡ standard-letter n b u
-    repeated-read e = rw (in-limits h k, e)
-
-    pub repeated-refused : {m : ℕ} → next t ≡ refused m → repeated n t ≡ refused m
-    repeated-refused e = rw (in-limits h k, e)
-
-module _ (t : Text) where
-  pub standard-digits : peek digit t ≡ true → standard-letters t ≡ and-then (natural t) repeated
-  unfolding standard-letters
-  standard-digits e = rw e
-
-  pub standard-one : peek digit t ≡ false → standard-letters t ≡ repeated 1 t
-  unfolding standard-letters
-  standard-one e = rw e
 
 -- `Q`
 pub archetype-is : {b x : ℕ} (t : Text) → b ≡ x → archetype-letter b t ≡ archetype-letter x t
@@ -210,74 +144,3 @@ accessor-is b e = ap (λ o. variable (given o (bad 9) good)) (sym e)
 pub witness-first : (t : Text) → value-witness-letters t ≡ and-then (next t) witness-second
 unfolding value-witness-letters
 witness-first t = refl
-
--- `r`
-module _ (t : Text) {u : Text} where
-  pub count-ends : next-if (is "l") t ≡ ok true u → count t ≡ ok none u
-  count-ends e = rw e
-
-  module _ {v : Text} (p : next-if (is "l") t ≡ ok false u) where
-    pub count-zero : next-if (is "z") u ≡ ok true v → count t ≡ ok (some 0) v
-    count-zero e = rw (p, e)
-
-    pub count-index : next-if (is "z") u ≡ ok false v → count t ≡ and-then (index-plus-one v) (λ n w. ok (some n) w)
-    count-index e = rw (p, e)
-
--- one turn of `counts`, and the rest
-module _ (depths params : ℕ) where
-  turned : Option ℕ → Lex ℕ
-  turned none = ret params
-  turned (some n) = counts depths n
-
-  by-index : (o : Out Text ℕ) → and-then o (counts depths) ≡ and-then (and-then o (λ n. ret (some n))) turned
-  unfolding turned
-  by-index (ok n u) = refl
-  by-index (refused n) = refl
-
-  by-zero : (o : Out Text Bool) → and-then o (λ z t. and-then ((if z then ret 0 else index-plus-one) t) (counts depths)) ≡ and-then (and-then o next-count) turned
-  unfolding turned
-  by-zero (ok true u) = refl
-  by-zero (ok false u) = by-index (index-plus-one u)
-  by-zero (refused n) = refl
-
-  opened : (o : Out Text Bool) → Out Text ℕ
-  opened o = and-then o (λ closed. elim closed as (λ c. Lex ℕ) [ true ↦ ret params | false ↦ λ t. and-then (next-if (is "z") t) (λ z t. and-then ((if z then ret 0 else index-plus-one) t) (counts depths)) ])
-
-  by-opened : (o : Out Text Bool) → opened o ≡ and-then (and-then o count-unless) turned
-  unfolding turned opened
-  by-opened (ok true u) = refl
-  by-opened (ok false u) = by-zero (next-if (is "z") u)
-  by-opened (refused n) = refl
-
-  counts-turn : (t : Text) → counts (suc depths) params t ≡ and-then (count t) turned
-  unfolding counts opened
-  counts-turn t = by-opened (next-if (is "l") t)
-
-  module _ (t : Text) {u : Text} where
-    pub counts-closed : count t ≡ ok none u → counts (suc depths) params t ≡ ok params u
-    unfolding turned
-    counts-closed e = counts-turn t ∙ ap (λ o. and-then o turned) e
-
-    pub counts-more : {n : ℕ} → count t ≡ ok (some n) u → counts (suc depths) params t ≡ counts depths n u
-    unfolding turned
-    counts-more e = counts-turn t ∙ ap (λ o. and-then o turned) e
-
-  pub counts-refused : (t : Text) {n : ℕ} → count t ≡ refused n → counts (suc depths) params t ≡ refused n
-  counts-refused t e = counts-turn t ∙ ap (λ o. and-then o turned) e
-
-module _ (params : ℕ) (t : Text) {u : Text} where
-  pub counts-last : next-if (is "l") t ≡ ok true u → counts 0 params t ≡ ok params u
-  unfolding counts
-  counts-last e = rw e
-
-  pub counts-deep : next-if (is "l") t ≡ ok false u → counts 0 params t ≡ refused 8
-  unfolding counts
-  counts-deep e = rw e
-
--- the loop of `generic_signature`: what is left to count
-pub record Counting (text : Text) (from at params left : ℕ) : Type 0 where
-  pub small : params < 2 ^ 64
-  pub inside : at ≤ length text
-  pub onward : from ≤ at
-  pub few : left ≤ 256
-  pub same : counts 256 0 (drop from text) ≡ counts left params (drop at text)

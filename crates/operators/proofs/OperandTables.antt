@@ -1,78 +1,24 @@
 -- The tables of the operands' letters are the definition's: computed tests over the whole table. Assumes nothing.
-use mathlib.Core.Path.{_≡_, refl, sym, ap, _∙_}
+use mathlib.Core.Path.{_≡_, refl, ap, _∙_}
 use mathlib.Core.Bool.{Bool, true, false}
 use mathlib.Core.List.{List, [], _∷_, map}
 use mathlib.Core.Option.{Option, some, none}
-use Prim.Native.Nat.{ℕ, zero, suc, _+_, _-_, _≤_, _<_}
+use Prim.Native.Nat.{ℕ, _+_, _-_, _≤_, _<_}
 use Prim.Native.Char.{Char}
 use Prim.Native.String.{String}
 use native.Mathlib.Omega.{arith}
-use native.Mathlib.Nat.{le-of-suc-le-suc, not-suc-le-zero, suc-add, add-suc, add-zero}
 use borrow.Author.Tests.{ne-eqb}
 use lib.Dec.{T, eqb, leb, leb→le}
-use lib.ListN.{length, getD, getElem?, take, drop}
+use lib.ListN.{getD, getElem?, take, drop}
 use Rattle.definition.specs.Operators.{opened as opened₀}
-use Rattle.definition.specs.Base.{pick}
-use Rattle.definition.specs.Node.{NominalKind}
-use Rattle.definition.specs.Operators.{standard-modules, standard-types, requirements, accessors, value-witnesses}
+use Rattle.definition.specs.Operators.{requirements, accessors, value-witnesses}
 use Rattle.fixed_names.specs.Fixed.{fixed-names, fixed}
-use Rattle.operators.specs.Letters.{letters, entries, place}
-use Rattle.operators.specs.Operands.{standard-kind, on-target, requirement-kind, flattened, witness-names}
-use Rattle.operators.proofs.Places.{pick-place, entry}
+use Rattle.letters.specs.Letters.{entries}
+use Rattle.operators.specs.Operands.{on-target, requirement-kind, flattened, witness-names}
+use Rattle.letters.proofs.Places.{entry}
 use Rattle.operators.proofs.Rows.{zipped, zip-entry}
-use Rattle.operators.proofs.Table.{every, at}
-
--- f of n numbers, from i on
-unfoldable pub listed : {A : Type 0} → (ℕ → A) → ℕ → ℕ → List A
-listed f i zero = []
-listed f i (suc n) = f i ∷ listed f (suc i) n
-
-pub listed-entry : {A : Type 0} (f : ℕ → A) (i n j : ℕ) → j < n → getElem? (listed f i n) j ≡ some (f (i + j))
-unfolding listed
-listed-entry f i zero j h = absurd (not-suc-le-zero h)
-listed-entry f i (suc n) zero h = ap (λ (k : ℕ). some (f k)) (sym (add-zero i))
-listed-entry f i (suc n) (suc j) h = listed-entry f (suc i) n j (le-of-suc-le-suc h) ∙ ap (λ (k : ℕ). some (f k)) (suc-add i j ∙ sym (add-suc i j))
-
-past-none : {A : Type 0} (l : List A) (i : ℕ) → length l ≤ i → getElem? l i ≡ none
-past-none [] i h = refl
-past-none (x ∷ xs) zero h = absurd (not-suc-le-zero h)
-past-none (x ∷ xs) (suc i) h = past-none xs i (le-of-suc-le-suc h)
-
--- a whole table: the entry at the place i of the letter b
-module _ {A : Type 0} (table : List (Char × A)) (b i : ℕ) (e : i ≡ place b (letters table)) where
-  pub pick-at : pick b table ≡ getElem? (entries table) i
-  pick-at = pick-place b table ∙ ap (getElem? (entries table)) (sym e)
-
-  pub pick-none : length (entries table) ≤ i → pick b table ≡ none
-  pick-none h = pick-at ∙ past-none (entries table) i h
-
--- `S`
-modules-right : entries standard-modules ≡ listed fixed 1 2
-unfolding opened₀ entries listed fixed fixed-names
-modules-right = refl
-
-pub module-at : (i : ℕ) → i < 2 → getElem? (entries standard-modules) i ≡ some (fixed (1 + i))
-module-at i h = ap (λ l. getElem? l i) modules-right ∙ listed-entry fixed 1 2 i h
-
-unfoldable pub standard-kinds : List ℕ
-standard-kinds =
-    0 ∷ 0 ∷ 0 ∷ 0 ∷ 0 ∷ 0 ∷ 0 ∷ 0 ∷ 0 ∷ 0 ∷ 0 ∷ 0 ∷ 0 ∷ 0 ∷ 0 ∷ 0 ∷ 0 ∷ 0 ∷ 0 ∷ 0 ∷ 0 ∷ 0 ∷ 0 ∷ 0 ∷ 1 ∷ 2 ∷ 2 ∷ 2 ∷ 2 ∷ 2 ∷ 2 ∷ 2 ∷ 2 ∷ 2 ∷ 2 ∷ 2 ∷ 2 ∷ 2
-    ∷ 2 ∷ 2 ∷ 2 ∷ 2 ∷ 2 ∷ 2 ∷ 2 ∷ 2 ∷ 2 ∷ 2 ∷ []
-
-standard-row : ℕ → NominalKind × String
-standard-row n = (standard-kind (getD standard-kinds (n - 4) 0), fixed n)
-
-standard-right : entries standard-types ≡ listed standard-row 4 48
-unfolding opened₀ entries listed fixed fixed-names standard-row standard-kind standard-kinds
-standard-right = refl
-
-pub standard-at : (i : ℕ) → i < 48 → getElem? (entries standard-types) i ≡ some (standard-kind (getD standard-kinds i 0), fixed (4 + i))
-unfolding standard-row
-standard-at i h =
-    let z : 4 + i - 4 ≡ i = omega arith in
-    ap (λ l. getElem? l i) standard-right
-    ∙ listed-entry standard-row 4 48 i h
-    ∙ ap (λ (n : ℕ). some (standard-kind (getD standard-kinds n 0), fixed (4 + i))) z
+use Rattle.letters.proofs.Table.{every, at}
+use Rattle.letters.proofs.Listed.{listed, listed-entry}
 
 -- `R`
 unfoldable pub requirement-kinds : List ℕ

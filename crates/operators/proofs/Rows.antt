@@ -3,7 +3,7 @@ use mathlib.Core.Path.{_≡_, refl, ap, _∙_}
 use mathlib.Core.Bool.{Bool, true, false, _||_}
 use mathlib.Core.List.{List, [], _∷_}
 use mathlib.Core.Option.{some}
-use Prim.Native.Nat.{ℕ, zero, suc, _+_, _≤_, _<_}
+use Prim.Native.Nat.{ℕ, zero, suc, _≤_, _<_}
 use native.Mathlib.Omega.{arith}
 use native.Mathlib.Nat.{le-of-suc-le-suc, not-suc-le-zero}
 use borrow.Author.Tests.{le-ltb}
@@ -11,9 +11,9 @@ use lib.Dec.{T, ltb, leb, ltb→lt, leb→le}
 use lib.ListN.{length, getD, getElem?}
 use Rattle.definition.specs.Operators.{opened as opened₀}
 use Rattle.fixed_names.specs.Fixed.{fixed-names, fixed}
-use Rattle.operators.specs.Letters.{entries}
+use Rattle.letters.specs.Letters.{entries}
 use Rattle.operators.specs.Tables.{lifted, first-letters, row-table, simples, steps, meaning, kinds-below}
-use Rattle.operators.proofs.Table.{every, at}
+use Rattle.letters.proofs.Table.{every, at}
 
 -- two columns, row by row
 unfoldable pub zipped : {A : Type 0} → (ℕ → ℕ → A) → List ℕ → List ℕ → List A
@@ -87,20 +87,3 @@ module _ (n : ℕ) (h : n < 103) where
 -- KINDS
 pub kind-is : (name : ℕ) {k j : ℕ} → k ≡ j → meaning k name ≡ meaning j name
 kind-is name e = ap (λ (x : ℕ). meaning x name) e
-
--- what is known where no arm of a match on k was taken, with the n arms from s on
-abbrev pub PassedFrom : ℕ → ℕ → ℕ → Type 0
-PassedFrom k s zero = Unit {0}
-PassedFrom k s (suc n) = PassedFrom k s n × (k ≡ s + n → ⊥)
-
-pub passed-from : (k s n : ℕ) → s ≤ k → PassedFrom k s n → s + n ≤ k
-passed-from k s zero l h = omega arith
-passed-from k s (suc n) l h = let p = passed-from k s n l (h .0) in let m = h .1 in omega arith
-
-abbrev pub Passed : ℕ → ℕ → Type 0
-Passed k zero = Unit {0}
-Passed k (suc n) = Passed k n × (k ≡ n → ⊥)
-
-pub passed : (k n : ℕ) → Passed k n → n ≤ k
-passed k zero h = omega arith
-passed k (suc n) h = let l = passed k n (h .0) in let m = h .1 in omega arith

@@ -1,18 +1,13 @@
 -- Parts of the definition's steps that read operands, and what the codes of the tables mean. Assumes nothing.
-use mathlib.Core.Bool.{Bool, _&&_}
 use mathlib.Core.List.{List, [], _∷_, _++_}
-use mathlib.Core.Option.{Option, some, none}
 use Prim.Native.Nat.{ℕ, _/_, _%_}
 use Prim.Native.Char.{Char}
 use Prim.Native.String.{String}
-use lib.Dec.{ltb, leb}
 use lib.ListN.{getD}
-use Rattle.definition.specs.Base.{if_then_else_, given, bytes, is, pick, ret, refuse, or-refuse, unless, _>>=_, _>>_, good, bad}
-use Rattle.definition.specs.Text.{Lex, Param, next, next-if, index-plus-one, generic-param-index}
-use Rattle.definition.specs.Node.{NominalKind, Struct, Enum, Protocol}
-use Rattle.definition.specs.Budget.{most-steps, most-wraps}
-use Rattle.definition.specs.Operators.{Operator, Subject, standard-nominal, generic-param, leaf, standard, archetype, generic-signature, variable, requirement, layout, value-witness, conforms, superclass, same-type, of-stack, choose-then, choose-late, standard-letter, standard-types, archetypes, on-param, on-member, requiring, requiring-layout, layouts, counts, accessors, value-witnesses}
-use Rattle.operators.specs.Letters.{entries}
+use Rattle.definition.specs.Base.{given, bytes, pick, ret, refuse, or-refuse, _>>=_, _>>_, good, bad}
+use Rattle.definition.specs.Text.{Lex, Param, next, generic-param-index}
+use Rattle.definition.specs.Operators.{Operator, Subject, generic-param, leaf, archetype, variable, requirement, layout, value-witness, conforms, superclass, same-type, of-stack, choose-then, choose-late, archetypes, on-param, on-member, requiring, requiring-layout, layouts, accessors, value-witnesses}
+use Rattle.letters.specs.Letters.{entries}
 
 -- the arms of `operators` that are no step with a name
 abbrev pub generic-param-letters : Lex Operator
@@ -21,26 +16,8 @@ generic-param-letters = generic-param-index >>= λ p. ret (leaf (generic-param p
 abbrev pub archetype-letters : Lex Operator
 archetype-letters = choose-then archetypes >>= λ p. ret (archetype p)
 
-abbrev pub signature-letters : Lex Operator
-signature-letters = counts most-wraps 0 >>= λ n. ret (generic-signature n)
-
 abbrev pub variable-letters : Lex Operator
 variable-letters = choose-late accessors >>= λ a. ret (variable a)
-
--- `S`
--- a kind of the table of standard types
-unfoldable pub standard-kind : ℕ → NominalKind
-standard-kind k = getD (Struct ∷ Enum ∷ []) k Protocol
-
-abbrev pub standard-type-letter : ℕ → ℕ → Lex Operator
-standard-type-letter repeat b = or-refuse 9 (pick b standard-types) >>= λ s. ret (standard repeat (standard-nominal (s .0) (s .1)))
-
--- the rest of `standard-letters`, behind the count
-abbrev pub repeated : ℕ → Lex Operator
-repeated n = do
-  unless 9 (ltb 0 n && leb n most-steps)
-  c ← next
-  standard-letter n c
 
 -- `Q`: the rest of `archetype-letters`, behind the letter b
 abbrev pub archetype-of : Lex Param → Lex Operator
@@ -66,16 +43,6 @@ requirement-kind k =
 -- the rest of `requiring-layout`, behind the subject
 abbrev pub layout-letter : Subject → Lex Operator
 layout-letter s = choose-late layouts >>= λ l. ret (requirement s (layout l))
-
--- `r`: one turn of `counts`: closed, or the next count
-abbrev pub next-count : Bool → Lex (Option ℕ)
-next-count z = (if z then ret 0 else index-plus-one) >>= λ n. ret (some n)
-
-abbrev pub count-unless : Bool → Lex (Option ℕ)
-count-unless closed = if closed then ret none else (next-if (is "z") >>= λ z. next-count z)
-
-abbrev pub count : Lex (Option ℕ)
-count = next-if (is "l") >>= λ closed. count-unless closed
 
 -- `v`
 abbrev pub accessor-late : ℕ → Operator

@@ -7,13 +7,14 @@ use Prim.Native.Nat.{ℕ, _+_, _≤_, _<_}
 use Prim.Native.Char.{Char}
 use lib.Dec.{ltb}
 use lib.ListN.{take, drop, getD, getElem?}
-use Rattle.definition.specs.Base.{if_then_else_, bytes, is, pick, ret, refuse, _>>=_, _>>_}
+use Rattle.definition.specs.Base.{if_then_else_, bytes, pick, ret, refuse, _>>_}
 use Rattle.definition.specs.Text.{Lex, param, next}
 use Rattle.definition.specs.Node.{Class, Struct, Enum, Protocol, TypeAlias}
 use Rattle.definition.specs.Operators.{Operator, a-type, an-entity, a-context, a-protocol, a-conformance, anything, module-named, standard-nominal, generic-param, empty-list, first-element-marker, variadic-marker, throws, async, nominal, leaf, tuple, function-type, protocol-list, bound-generic, in-out, metatype, generic-signature, plain-function, initializer, deinitializer, variable-initializer, static, record-of, lazy-witness, protocol-witness, associated-type, associated-conformance, choose, choose-then, standard-letters, special-types, async-types, requirement-letters, function-entities, context-descriptors, metatype-records, field-offsets, witnesses, value-witness-letters, suspend-resume, thunks, operators}
 use Rattle.fixed_names.specs.Fixed.{fixed}
-use Rattle.operators.specs.Letters.{entries}
-use Rattle.operators.specs.Operands.{generic-param-letters, archetype-letters, signature-letters, variable-letters}
+use Rattle.letters.specs.Letters.{entries}
+use Rattle.operators.specs.Operands.{generic-param-letters, archetype-letters, variable-letters}
+use Rattle.signatures.specs.Counts.{signature-letters}
 use Rattle.operators.specs.declared.Coded.{Coded}
 use Rattle.operators.specs.declared.Found.{Found}
 use Rattle.operators.specs.declared.Found.the-variants as Found

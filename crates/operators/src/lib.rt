@@ -1,22 +1,18 @@
 // One operator's letters and operands.
 ghost use mathlib.Core.Path.{_≡_};
 ghost use mathlib.Core.Bool.{false};
-ghost use mathlib.Core.Option.{Option, some};
-ghost use Prim.Native.Nat.{ℕ, _+_, _≤_, _<_};
-ghost use lib.ListN.{length, getD, getElem?, take, drop};
-ghost use Rattle.definition.specs.Base.{digit, lower, upper, pick, ret};
+ghost use Prim.Native.Nat.{_+_, _≤_, _<_};
+ghost use lib.ListN.{length, getD, take, drop};
+ghost use Rattle.definition.specs.Base.{pick, ret};
 ghost use Rattle.definition.specs.Text as Text;
 ghost use Rattle.definition.specs.Operators as Op;
 ghost use Rattle.definition.specs.Enums as Enums;
-ghost use Rattle.text.specs.Cursor.{Numbered};
 ghost use Rattle.fixed_names.specs.Fixed.{fixed};
-ghost use Rattle.operators.specs.Letters.{place};
 ghost use Rattle.operators.specs.Tables.{row-table, meaning, picked, step-at, any-byte, Row, Searched};
-ghost use Rattle.operators.specs.Operands.{standard-kind, standard-type-letter, repeated, generic-param-letters, archetype-letters, archetype-letter, archetype-of, signature-letters, variable-letters, accessor-late, on-target, requirement-kind, layout-letter, witness-names, witness-name, witness-pair, witness-second, count};
+ghost use Rattle.operators.specs.Operands.{generic-param-letters, archetype-letters, archetype-letter, variable-letters, accessor-late, on-target, requirement-kind, layout-letter, witness-names, witness-name, witness-pair, witness-second};
 ghost use Rattle.definition.specs.declared.Operator.the-variants as Operator;
-ghost use Rattle.operators.specs.Chain.{Same, times-of, past-of, chain-after, chain, Copied};
-ghost use Rattle.operators.specs.Answers.{Operated, Subjected, Turned, Begun};
-
+ghost use Rattle.letters.specs.Answers.{Operated};
+ghost use Rattle.operators.specs.Answers.{Subjected, Begun};
 use definition::About;
 use definition::Accessor;
 use definition::Constraint;
@@ -26,34 +22,19 @@ use definition::Operator;
 use definition::Param;
 use definition::Refusal;
 use definition::Subject;
+use letters::OperatorRead;
+use letters::place_of;
+use letters::wide;
+use signatures::generic_signature;
+use standard_types::standard;
 use text::Byte;
 use text::Cursor;
 use text::Number;
 use text::ParamRead;
 
-// An operator and the next cursor; `A`, whose letters are read one by one from the cursor on; or a refusal.
-pub enum OperatorRead {
-    Read(Operator, Cursor),
-    Substitutions(Cursor),
-    Refused(Refusal),
-}
-
-// The next item behind `A`: so many copies of the remembered node of an index, whether it is the last, and the next cursor.
-pub enum SubstitutionRead {
-    Copies(usize, usize, bool, Cursor),
-    Broken(Refusal),
-}
-
 // A requirement's subject.
 pub enum SubjectRead {
     Read(Subject, Cursor),
-    Refused(Refusal),
-}
-
-// One turn of the counts behind `r`.
-pub enum CountRead {
-    Closed(Cursor),
-    Count(usize, Cursor),
     Refused(Refusal),
 }
 
@@ -70,20 +51,6 @@ pub enum Found {
 }
 
 // Tables of letters
-
-// The place of the first b among the letters, or their count.
-fn place_of(letters: &[u8], b: u8) -> usize
-    ensures { λ r. ⌜ r ≡ place b (now (letters .entry)) ⌝ }
-{
-    let mut i = 0;
-    while i < letters.len() {
-        if letters[i] == b {
-            return i;
-        }
-        i += 1;
-    }
-    i
-}
 
 // The letters behind `Y` (1), `f` (7), `MX` (3), `Wv` (2), `X` (11), `M` (21), `W` (8) and `T` (16), and those that begin an operator, but `A` (34).
 const ROW_LETTERS: [u8; 103] =
@@ -301,12 +268,6 @@ const ROW_NAMES: [u8; 103] = [
     0,
 ];
 
-fn wide(b: u8) -> usize
-    ensures { λ r. ⌜ r ≡ b ⌝ }
-{
-    b as usize
-}
-
 // The row of that number.
 fn row_at(n: usize) -> Coded
     requires { ⌜ n < 103 ⌝ }
@@ -468,130 +429,6 @@ fn choose_then(text: &[u8], c: Cursor, start: usize, count: usize) -> OperatorRe
         Byte::Read(b, next) => choose_row(text, next, start, count, b),
         Byte::Refused(f) => OperatorRead::Refused(f),
     }
-}
-
-// `S`: standard types and modules
-
-// The letters of the modules; the name of the first is 1.
-const MODULE_LETTERS: [u8; 2] = *b"oC";
-
-// The letters of the standard types, and their kinds: 0 is a struct, 1 an enum, 2 a protocol. The name of the first is 4.
-const STANDARD_LETTERS: [u8; 48] = *b"aAbDdfhIiJNnOPpRrSsuVvWwqBEeFGHjKkLlMmQTtUXxYyZz";
-
-const STANDARD_KINDS: [u8; 48] = [
-    0,
-    0,
-    0,
-    0,
-    0,
-    0,
-    0,
-    0,
-    0,
-    0,
-    0,
-    0,
-    0,
-    0,
-    0,
-    0,
-    0,
-    0,
-    0,
-    0,
-    0,
-    0,
-    0,
-    0,
-    1,
-    2,
-    2,
-    2,
-    2,
-    2,
-    2,
-    2,
-    2,
-    2,
-    2,
-    2,
-    2,
-    2,
-    2,
-    2,
-    2,
-    2,
-    2,
-    2,
-    2,
-    2,
-    2,
-    2,
-];
-
-fn standard_kind(k: u8) -> NominalKind
-    ensures { λ r. ⌜ Enums.nominal-kind r ≡ standard-kind k ⌝ }
-{
-    match k {
-        0 => NominalKind::Struct,
-        1 => NominalKind::Enum,
-        _ => NominalKind::Protocol,
-    }
-}
-
-fn standard_type(c: Cursor, repeat: usize, b: u8) -> OperatorRead
-    ensures { λ r. ⌜ ((t : Text.Text) → c .at ≤ length t → Operated (standard-type-letter repeat b (drop (c .at) t)) t (c .at) r) ⌝ }
-{
-    let i = place_of(&STANDARD_LETTERS, b);
-    if i < 48 {
-        let kind = standard_kind(STANDARD_KINDS[i]);
-        return OperatorRead::Read(
-            Operator::Standard(repeat, Leaf::StandardNominal(kind, 4 + i)),
-            c,
-        );
-    }
-    OperatorRead::Refused(Refusal::Spelling)
-}
-
-fn standard_letter(c: Cursor, repeat: usize, b: u8) -> OperatorRead
-    ensures { λ r. ⌜ ((t : Text.Text) → c .at ≤ length t → Operated (Op.standard-letter repeat b (drop (c .at) t)) t (c .at) r) ⌝ }
-{
-    if b == b'g' {
-        return OperatorRead::Read(Operator::Optional(repeat), c);
-    }
-    let i = place_of(&MODULE_LETTERS, b);
-    if i < 2 {
-        return OperatorRead::Read(Operator::Standard(repeat, Leaf::Module(1 + i)), c);
-    }
-    standard_type(c, repeat, b)
-}
-
-// Behind the count.
-fn standard_repeat(text: &[u8], c: Cursor, repeat: usize) -> OperatorRead
-    ensures { λ r. ⌜ Operated (repeated repeat (drop (c .at) (now (text .entry)))) (now (text .entry)) (c .at) r ⌝ }
-{
-    if repeat == 0 {
-        return OperatorRead::Refused(Refusal::Spelling);
-    }
-    if 4096 < repeat {
-        return OperatorRead::Refused(Refusal::Spelling);
-    }
-    match text::next(text, c) {
-        Byte::Read(b, next) => standard_letter(next, repeat, b),
-        Byte::Refused(f) => OperatorRead::Refused(f),
-    }
-}
-
-fn standard(text: &[u8], c: Cursor) -> OperatorRead
-    ensures { λ r. ⌜ Operated (Op.standard-letters (drop (c .at) (now (text .entry)))) (now (text .entry)) (c .at) r ⌝ }
-{
-    if text::peek_is_digit(text, c) {
-        return match text::natural(text, c) {
-            Number::Read(n, next) => standard_repeat(text, next, n),
-            Number::Refused(f) => OperatorRead::Refused(f),
-        };
-    }
-    standard_repeat(text, c, 1)
 }
 
 // Generic parameters
@@ -770,69 +607,6 @@ fn requirement(text: &[u8], c: Cursor) -> OperatorRead
     OperatorRead::Refused(Refusal::Spelling)
 }
 
-// `r`: counts
-
-// A count: an index and 1.
-fn count_index(text: &[u8], c: Cursor) -> Number
-    requires { ⌜ c .at ≤ length (now text) ⌝ }
-    ensures { λ r. ⌜ Numbered (Text.index-plus-one (drop (c .at) (now (text .entry)))) (now (text .entry)) (c .at) r ⌝ }
-{
-    text::index_plus_one(text, c)
-}
-
-fn one_count(text: &[u8], c: Cursor) -> CountRead
-    requires { ⌜ c .at ≤ length (now text) ⌝ }
-    ensures { λ r. ⌜ Turned (count (drop (c .at) (now (text .entry)))) (now (text .entry)) (c .at) r ⌝ }
-{
-    let end = text::next_if(text, c, b'l');
-    let closed = end.taken;
-    let next = end.next;
-    if closed {
-        return CountRead::Closed(next);
-    }
-    let z = text::next_if(text, next, b'z');
-    let none = z.taken;
-    let after = z.next;
-    if none {
-        return CountRead::Count(0, after);
-    }
-    match count_index(text, after) {
-        Number::Read(n, stop) => CountRead::Count(n, stop),
-        Number::Refused(f) => CountRead::Refused(f),
-    }
-}
-
-fn generic_signature(text: &[u8], c: Cursor) -> OperatorRead
-    requires { ⌜ c .at ≤ length (now text) ⌝ }
-    ensures { λ r. ⌜ Operated (signature-letters (drop (c .at) (now (text .entry)))) (now (text .entry)) (c .at) r ⌝ }
-{
-    let mut at = c.at;
-    let mut params = 0;
-    let mut left: usize = 256;
-    while 0 < left {
-        match one_count(text, Cursor { at }) {
-            CountRead::Closed(next) => {
-                return OperatorRead::Read(Operator::GenericSignature(params), next);
-            }
-            CountRead::Refused(f) => {
-                return OperatorRead::Refused(f);
-            }
-            CountRead::Count(n, next) => {
-                params = n;
-                at = next.at;
-            }
-        }
-        left -= 1;
-    }
-    let end = text::next_if(text, Cursor { at }, b'l');
-    let closed = end.taken;
-    let next = end.next;
-    if closed {
-        return OperatorRead::Read(Operator::GenericSignature(params), next);
-    }
-    OperatorRead::Refused(Refusal::Nesting)
-}
-
 // `v`: the letter is judged late
 
 // The letters: the variable itself, and then the accessors; the name of the first is 52.
@@ -969,73 +743,4 @@ pub fn operator(text: &[u8], c: Cursor) -> OperatorRead
         Found::At(n) => first_row(text, next, n),
         Found::Nothing => OperatorRead::Refused(Refusal::Spelling),
     }
-}
-
-// `A`: substitutions
-
-fn is_lower(b: u8) -> bool
-    ensures { λ r. ⌜ r ≡ lower b ⌝ }
-{
-    if b < 97 {
-        return false;
-    }
-    b <= 122
-}
-
-fn is_upper(b: u8) -> bool
-    ensures { λ r. ⌜ r ≡ upper b ⌝ }
-{
-    if b < 65 {
-        return false;
-    }
-    b <= 90
-}
-
-// The letter of an item, behind its repeat: so many copies; `past` is the index of `_`.
-fn item_letter(text: &[u8], c: Cursor, times: usize, past: usize) -> SubstitutionRead
-    requires { ⌜ Text.peek digit (drop (c .at) (now text)) ≡ false ⌝ }
-    ensures { λ r. ⌜ ((repeat : Option ℕ) → times ≡ times-of repeat → Same past (past-of repeat) → 0 < times → Copied (chain-after repeat (drop (c .at) (now (text .entry)))) (now (text .entry)) (c .at) r) ⌝ }
-{
-    let at = c.at;
-    if at < text.len() {
-        let b = text[at];
-        let next = Cursor { at: at + 1 };
-        if is_lower(b) {
-            return SubstitutionRead::Copies(times, wide(b) - 97, false, next);
-        }
-        if is_upper(b) {
-            return SubstitutionRead::Copies(times, wide(b) - 65, true, next);
-        }
-        if b == b'_' {
-            return SubstitutionRead::Copies(1, past, true, next);
-        }
-    }
-    SubstitutionRead::Broken(Refusal::Spelling)
-}
-
-// Behind the repeat n. An index past 2^64 is past every node: the largest stands for it.
-fn repeated_item(text: &[u8], c: Cursor, n: usize) -> SubstitutionRead
-    requires { ⌜ Text.peek digit (drop (c .at) (now text)) ≡ false ⌝ }
-    ensures { λ r. ⌜ Copied (chain-after (some n) (drop (c .at) (now (text .entry)))) (now (text .entry)) (c .at) r ⌝ }
-{
-    if n == 0 {
-        return item_letter(text, c, 1, 27);
-    }
-    if n <= 18446744073709551588 {
-        return item_letter(text, c, n, n + 27);
-    }
-    item_letter(text, c, n, 18446744073709551615)
-}
-
-// The next item behind `A`, from the cursor on.
-pub fn substitution(text: &[u8], c: Cursor) -> SubstitutionRead
-    ensures { λ r. ⌜ Copied (chain (drop (c .at) (now (text .entry)))) (now (text .entry)) (c .at) r ⌝ }
-{
-    if text::peek_is_digit(text, c) {
-        return match text::natural(text, c) {
-            Number::Read(n, next) => repeated_item(text, next, n),
-            Number::Refused(f) => SubstitutionRead::Broken(f),
-        };
-    }
-    item_letter(text, c, 1, 26)
 }

@@ -16,9 +16,9 @@ use Rattle.definition.specs.Calls.{then-run}
 use Rattle.definition.specs.Enums.{number}
 use Rattle.definition.specs.declared.Refusal.{Refusal}
 use Rattle.text.specs.declared.Cursor.{Cursor}
-use Rattle.operators.specs.Chain.{Chain, ended, more, chain, outcome, Same, Begins, Ends, Breaks, Copied}
-use Rattle.operators.specs.declared.SubstitutionRead.{SubstitutionRead}
-use Rattle.operators.specs.declared.SubstitutionRead.the-variants as SubstitutionRead
+use Rattle.substitutions.specs.Chain.{Chain, ended, more, chain, outcome, Same, Begins, Ends, Breaks, Copied}
+use Rattle.substitutions.specs.declared.SubstitutionRead.{SubstitutionRead}
+use Rattle.substitutions.specs.declared.SubstitutionRead.the-variants as SubstitutionRead
 use Rattle.records.specs.Holds.{Names, Spare, Holds, Ready}
 use Rattle.records.specs.declared.State.{State}
 use Rattle.nodes.specs.Gives.{nothing-spare, Beyond}

@@ -30,10 +30,11 @@ use Rattle.budget.proofs.Charging.{charge-room, charged-to}
 use Rattle.text.specs.declared.Cursor.{Cursor}
 use Rattle.text.proofs.Steps.{front, peek-read}
 use Rattle.fixed_names.specs.Fixed.{fixed}
-use Rattle.operators.specs.Answers.{Stands, Begun, OpensChain}
-use Rattle.operators.specs.declared.OperatorRead.{OperatorRead}
-use Rattle.operators.specs.declared.OperatorRead.the-variants as OperatorRead
-use Rattle.operators.proofs.ChainLaws.{operator-chain}
+use Rattle.letters.specs.Answers.{Stands}
+use Rattle.operators.specs.Answers.{Begun, OpensChain}
+use Rattle.letters.specs.declared.OperatorRead.{OperatorRead}
+use Rattle.letters.specs.declared.OperatorRead.the-variants as OperatorRead
+use Rattle.substitutions.proofs.ChainLaws.{operator-chain}
 use Rattle.records.specs.Lies.{Lies}
 use Rattle.records.specs.Holds.{Names, Named, spelled, Spare, Holds, Ready, for-record, for-push, for-keeping}
 use Rattle.records.specs.declared.State.{State}

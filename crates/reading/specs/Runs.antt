@@ -16,7 +16,7 @@ use Rattle.definition.specs.Calls.{End, ran, stopped, then-run, turn, turns, si
 use Rattle.definition.specs.Enums.{number}
 use Rattle.definition.specs.declared.Refusal.{Refusal}
 use Rattle.text.specs.declared.Cursor.{Cursor}
-use Rattle.operators.specs.Chain.{chain, outcome}
+use Rattle.substitutions.specs.Chain.{chain, outcome}
 use Rattle.naming.specs.Naming.{names-of, naming}
 use Rattle.records.specs.Holds.{Names, Named, Spare, Holds}
 use Rattle.records.specs.Lies.{Lies}

@@ -14,19 +14,19 @@ ghost use Rattle.words.specs.Table.{Fitting};
 ghost use Rattle.records.specs.Holds.{Names, Inside, Holds, Ready};
 ghost use Rattle.runs.specs.Ends.{Writing};
 ghost use Rattle.nodes.specs.Gives.{nothing-spare, full-spare, Kept};
-ghost use Rattle.operators.specs.Chain.{chain, outcome};
+ghost use Rattle.substitutions.specs.Chain.{chain, outcome};
 ghost use Rattle.reading.specs.Runs.{Reads, performs, Turning, Letters, Performed, Begins, NameTurn, Ending, Singles};
 use budget::Budget;
 use budget::Spent;
 use definition::Operator;
 use definition::Refusal;
+use letters::OperatorRead;
 use nodes::Step;
-use operators::OperatorRead;
-use operators::SubstitutionRead;
 use records::Fields;
 use records::State;
 use runs::Final;
 use runs::Written;
+use substitutions::SubstitutionRead;
 use text::Cursor;
 use words::NameRead;
 use words::Words;
@@ -81,7 +81,7 @@ fn item(text: &[u8], c: Cursor, ws: &mut [u32], n: usize, st: State) -> Letter
     requires { ⌜ Reads (now text) (now ws) n st nothing-spare ⌝ }
     ensures { λ r. ⌜ Letters n (now (text .entry)) (c .at) (now (ws .entry)) (now (ws .exit)) st r ⌝ }
 {
-    match operators::substitution(text, c) {
+    match substitutions::substitution(text, c) {
         SubstitutionRead::Copies(times, index, last, next) => {
             match copies::recall(ws, n, st, times, index) {
                 Step::Done(u) => {

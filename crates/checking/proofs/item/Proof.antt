@@ -1,8 +1,8 @@
 -- `checking::item` meets its contract. Assumes nothing.
 use mathlib.Core.Path.{subst}
 use lib.ListN.{drop}
-use Rattle.operators.specs.Chain.{chain, Copied}
-use Rattle.operators.specs.declared.SubstitutionRead.the-variants as SubstitutionRead
+use Rattle.substitutions.specs.Chain.{chain, Copied}
+use Rattle.substitutions.specs.declared.SubstitutionRead.the-variants as SubstitutionRead
 use Rattle.shape.specs.Performs.{Wrote, recall-copies}
 use Rattle.checking.proofs.Answers.{was-done, was-not-done}
 use Rattle.checking.proofs.ChainSteps.{item-more, item-last, item-fails, item-broken}

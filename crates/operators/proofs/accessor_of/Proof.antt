@@ -4,9 +4,9 @@ use lib.ListN.{getElem?}
 use Rattle.definition.specs.Operators.{opened as opened₀}
 use Rattle.definition.specs.Operators.{accessors}
 use Rattle.definition.specs.Enums as Enums
-use Rattle.operators.specs.Letters.{letters, place}
-use Rattle.operators.specs.Letters.{entries}
-use Rattle.operators.proofs.OperandTables.{pick-at, pick-none, accessor-first, accessor-at}
+use Rattle.letters.specs.Letters.{letters, place, entries}
+use Rattle.letters.proofs.Listed.{pick-at, pick-none}
+use Rattle.operators.proofs.OperandTables.{accessor-first, accessor-at}
 use Rattle.operators.proofs.OperandSteps.{accessor-is}
 use borrow.Author.Needs.{needs}
 use Rattle.operators.proofs.accessor_of.Statement.{statement}

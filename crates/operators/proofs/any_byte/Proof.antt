@@ -5,7 +5,7 @@ use Rattle.definition.specs.Text.{Text}
 use Rattle.definition.specs.Operators.{metatype}
 use Rattle.definition.specs.Enums as Enums
 use Rattle.text.proofs.Steps.{then-ok, then-refused}
-use Rattle.operators.proofs.Choices.{byte-read, byte-refused}
+use Rattle.letters.proofs.Answered.{byte-read, byte-refused}
 use borrow.Author.Needs.{needs}
 use native.Mathlib.Omega.{arith}
 use Rattle.operators.proofs.any_byte.Statement.{statement}

@@ -1,7 +1,7 @@
 -- `operators::archetype` meets its contract. Assumes nothing.
 use Prim.Native.Nat.{_≤_}
 use lib.ListN.{drop}
-use Rattle.operators.proofs.Choices.{operated-is, byte-read, byte-refused}
+use Rattle.letters.proofs.Answered.{operated-is, byte-read, byte-refused}
 use Rattle.operators.proofs.OperandSteps.{archetype-read, archetype-refused}
 use borrow.Author.Needs.{needs}
 use native.Mathlib.Omega.{arith}

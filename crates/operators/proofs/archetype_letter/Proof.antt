@@ -3,7 +3,7 @@ use native.Mathlib.Nat.{le-refl}
 use lib.ListN.{drop}
 use Rattle.definition.specs.Operators.{opened as opened₀}
 use Rattle.definition.specs.Enums as Enums
-use Rattle.operators.proofs.Choices.{operated-is}
+use Rattle.letters.proofs.Answered.{operated-is}
 use Rattle.operators.proofs.OperandSteps.{archetype-is, archetype-none}
 use borrow.Author.Needs.{needs}
 use native.Mathlib.Omega.{arith}

@@ -5,8 +5,9 @@ use lib.ListN.{drop}
 use Rattle.definition.specs.Text.{Lex}
 use Rattle.definition.specs.Operators.{Operator}
 use Rattle.operators.specs.Tables.{meaning, simples, steps}
-use Rattle.operators.proofs.Rows.{passed-from}
-use Rattle.operators.proofs.Choices.{operated-is, row-step, row-of-kind, kinds-below-all, special-rows, async-rows, function-rows, metatype-rows, witness-rows, thunk-rows}
+use Rattle.letters.proofs.Passed.{passed-from}
+use Rattle.letters.proofs.Answered.{operated-is}
+use Rattle.operators.proofs.Choices.{row-step, row-of-kind, kinds-below-all, special-rows, async-rows, function-rows, metatype-rows, witness-rows, thunk-rows}
 use borrow.Author.Needs.{needs}
 use native.Mathlib.Omega.{arith}
 use Rattle.operators.proofs.first_row.Statement.{statement}

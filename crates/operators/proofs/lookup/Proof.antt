@@ -5,9 +5,9 @@ use native.Mathlib.Omega.{arith}
 use lib.ListN.{take, drop}
 use borrow.Author.Needs.{needs}
 use Rattle.definition.specs.Operators.{opened as opened₀}
-use Rattle.operators.specs.Letters.{letters, place}
+use Rattle.letters.specs.Letters.{letters, place}
 use Rattle.operators.specs.Tables.{lifted, first-letters, row-table}
-use Rattle.operators.proofs.Places.{found, missing}
+use Rattle.letters.proofs.Places.{found, missing}
 use Rattle.operators.proofs.lookup.Statement.{statement}
 use Rattle.operators.proofs.lookup.Tie as tie
 

@@ -6,11 +6,11 @@ use lib.ListN.{getD}
 use Rattle.definition.specs.Operators.{opened as opened₀}
 use Rattle.definition.specs.Operators.{requirements}
 use Rattle.definition.specs.Enums as Enums
-use Rattle.operators.specs.Letters.{letters, place}
-use Rattle.operators.specs.Letters.{entries}
+use Rattle.letters.specs.Letters.{letters, place, entries}
 use Rattle.operators.specs.Operands.{on-target}
-use Rattle.operators.proofs.Choices.{operated-is}
-use Rattle.operators.proofs.OperandTables.{pick-at, pick-none, requirement-kinds, requirement-at}
+use Rattle.letters.proofs.Answered.{operated-is}
+use Rattle.letters.proofs.Listed.{pick-at, pick-none}
+use Rattle.operators.proofs.OperandTables.{requirement-kinds, requirement-at}
 use Rattle.operators.proofs.OperandSteps.{requirement-some, requirement-none, requirement-end}
 use borrow.Author.Needs.{needs}
 use native.Mathlib.Omega.{arith}

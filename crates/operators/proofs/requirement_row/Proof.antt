@@ -2,8 +2,8 @@
 use native.Mathlib.Nat.{le-refl}
 use lib.ListN.{drop}
 use Rattle.definition.specs.Enums as Enums
-use Rattle.operators.proofs.Rows.{passed}
-use Rattle.operators.proofs.Choices.{operated-is}
+use Rattle.letters.proofs.Passed.{passed}
+use Rattle.letters.proofs.Answered.{operated-is}
 use Rattle.operators.proofs.OperandSteps.{kind-conforms, kind-superclass, kind-same-type, kind-layout, kind-refused}
 use borrow.Author.Needs.{needs}
 use Rattle.operators.proofs.requirement_row.Statement.{statement}

@@ -3,7 +3,7 @@ use mathlib.Core.Path.{_∙_}
 use lib.ListN.{drop}
 use Rattle.text.proofs.Steps.{then-ok, then-refused}
 use Rattle.operators.specs.Operands.{on-target, layout-letter}
-use Rattle.operators.proofs.Choices.{operated-is}
+use Rattle.letters.proofs.Answered.{operated-is}
 use Rattle.operators.proofs.OperandSteps.{subject-read, subject-refused, requiring-layout-is}
 use borrow.Author.Needs.{needs}
 use Rattle.operators.proofs.requiring_layout.Statement.{statement}

@@ -5,7 +5,8 @@ use lib.ListN.{drop}
 use Rattle.definition.specs.Text.{Lex}
 use Rattle.definition.specs.Operators.{Operator}
 use Rattle.operators.specs.Tables.{meaning, simples, steps}
-use Rattle.operators.proofs.Choices.{operated-is, row-step, row-of-kind, row-kinds-below, context-rows, field-rows}
+use Rattle.letters.proofs.Answered.{operated-is}
+use Rattle.operators.proofs.Choices.{row-step, row-of-kind, row-kinds-below, context-rows, field-rows}
 use borrow.Author.Needs.{needs}
 use native.Mathlib.Omega.{arith}
 use Rattle.operators.proofs.row.Statement.{statement}

@@ -1,7 +1,7 @@
 -- `operators::second_witness` meets its contract. Assumes nothing.
 use Prim.Native.Nat.{_≤_}
 use Rattle.text.proofs.Steps.{then-ok, then-refused}
-use Rattle.operators.proofs.Choices.{operated-is, byte-read, byte-refused}
+use Rattle.letters.proofs.Answered.{operated-is, byte-read, byte-refused}
 use Rattle.operators.specs.Operands.{witness-pair}
 use borrow.Author.Needs.{needs}
 use native.Mathlib.Omega.{arith}

@@ -3,7 +3,8 @@ use mathlib.Core.Path.{_≡_}
 use native.Mathlib.Omega.{arith}
 use Rattle.definition.specs.Enums as Enums
 use Rattle.operators.specs.Tables.{meaning, simples, steps}
-use Rattle.operators.proofs.Rows.{kind-is, passed}
+use Rattle.operators.proofs.Rows.{kind-is}
+use Rattle.letters.proofs.Passed.{passed}
 use Rattle.operators.proofs.simple.Statement.{statement}
 use Rattle.operators.proofs.simple.Tie as tie
 

@@ -2,7 +2,7 @@
 use lib.ListN.{drop}
 use Rattle.definition.specs.Enums as Enums
 use Rattle.operators.specs.Operands.{on-target}
-use Rattle.operators.proofs.Rows.{passed}
+use Rattle.letters.proofs.Passed.{passed}
 use Rattle.operators.proofs.OperandSteps.{subjected-is, target-is, target-member}
 use borrow.Author.Needs.{needs}
 use native.Mathlib.Omega.{arith}

@@ -3,7 +3,7 @@ use mathlib.Core.Path.{_∙_}
 use Prim.Native.Nat.{_≤_}
 use lib.ListN.{drop}
 use Rattle.text.proofs.Steps.{then-ok, then-refused}
-use Rattle.operators.proofs.Choices.{operated-is, byte-read, byte-refused}
+use Rattle.letters.proofs.Answered.{operated-is, byte-read, byte-refused}
 use Rattle.operators.specs.Operands.{witness-second}
 use Rattle.operators.proofs.OperandSteps.{witness-first}
 use borrow.Author.Needs.{needs}

@@ -10,12 +10,11 @@ use Rattle.definition.specs.Operators.{value-witness}
 use Rattle.definition.specs.Enums.{number}
 use Rattle.definition.specs.Enums as Enums
 use Rattle.fixed_names.specs.Fixed.{fixed}
-use Rattle.operators.specs.Letters.{letters, place}
-use Rattle.operators.specs.Letters.{entries}
+use Rattle.letters.specs.Letters.{letters, place, entries}
 use Rattle.operators.specs.Operands.{flattened, witness-names}
-use Rattle.operators.proofs.Places.{found, missing}
+use Rattle.letters.proofs.Places.{found, missing}
 use Rattle.operators.proofs.OperandTables.{witness-kind-at}
-use Rattle.operators.proofs.OperandSteps.{or-some, or-none}
+use Rattle.letters.proofs.Answered.{or-some, or-none}
 use borrow.Author.Needs.{needs}
 use native.Mathlib.Omega.{arith}
 use Rattle.operators.proofs.witness_kind.Statement.{statement}

@@ -9,12 +9,11 @@ use lib.ListN.{getD, take, drop}
 use Rattle.definition.specs.Operators.{opened as opened₀}
 use Rattle.definition.specs.Operators.{value-witnesses}
 use Rattle.definition.specs.Enums.{number}
-use Rattle.operators.specs.Letters.{letters, place}
-use Rattle.operators.specs.Letters.{entries}
+use Rattle.letters.specs.Letters.{letters, place, entries}
 use Rattle.operators.specs.Operands.{witness-names, witness-name}
-use Rattle.operators.proofs.Choices.{operated-is}
-use Rattle.operators.proofs.OperandTables.{pick-at, pick-none, witness-starts, witness-counts, witness-at, witness-inside}
-use Rattle.operators.proofs.OperandSteps.{or-some, or-none}
+use Rattle.letters.proofs.Answered.{operated-is, or-some, or-none}
+use Rattle.letters.proofs.Listed.{pick-at, pick-none}
+use Rattle.operators.proofs.OperandTables.{witness-starts, witness-counts, witness-at, witness-inside}
 use borrow.Author.Needs.{needs}
 use native.Mathlib.Omega.{arith}
 use Rattle.operators.proofs.witness_letters.Statement.{statement}

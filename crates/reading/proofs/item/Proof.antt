@@ -1,6 +1,6 @@
 use mathlib.Core.Path.{subst}
 use lib.ListN.{drop}
-use Rattle.operators.specs.Chain.{chain, Copied}
+use Rattle.substitutions.specs.Chain.{chain, Copied}
 use Rattle.reading.proofs.ChainSteps.{reads-ready, was-recalled, item-last, item-more, item-fails, item-broken}
 use borrow.Author.Needs.{needs}
 use Rattle.reading.proofs.item.Statement.{statement}
@@ -8,7 +8,7 @@ use Rattle.reading.proofs.item.Tie as tie
 use Rattle.reading.proofs.item.Reads as reads
 use Rattle.reading.proofs.item.Lts as lts
 use Rattle.copies.proofs.recall.Reads as recall-reads
-use Rattle.operators.proofs.substitution.Reads as substitution-reads
+use Rattle.substitutions.proofs.substitution.Reads as substitution-reads
 
 -- src/lib.rt:81:11
 substitution-requires : tie.Need-substitution-requires

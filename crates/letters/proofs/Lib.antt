@@ -1,0 +1,5 @@
+pub mod Places
+pub mod Table
+pub mod Passed
+pub mod Answered
+pub mod Listed

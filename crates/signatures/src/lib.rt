@@ -1,0 +1,81 @@
+// `r`: the counts of a generic signature.
+ghost use Prim.Native.Nat.{_≤_, _<_};
+ghost use lib.ListN.{length, drop};
+ghost use Rattle.definition.specs.Text as Text;
+ghost use Rattle.text.specs.Cursor.{Numbered};
+ghost use Rattle.signatures.specs.Counts.{signature-letters, count, Turned};
+ghost use Rattle.definition.specs.declared.Operator.the-variants as Operator;
+ghost use Rattle.letters.specs.Answers.{Operated};
+use definition::Operator;
+use definition::Refusal;
+use letters::OperatorRead;
+use text::Cursor;
+use text::Number;
+
+// One turn of the counts behind `r`.
+pub enum CountRead {
+    Closed(Cursor),
+    Count(usize, Cursor),
+    Refused(Refusal),
+}
+
+// A count: an index and 1.
+fn count_index(text: &[u8], c: Cursor) -> Number
+    requires { ⌜ c .at ≤ length (now text) ⌝ }
+    ensures { λ r. ⌜ Numbered (Text.index-plus-one (drop (c .at) (now (text .entry)))) (now (text .entry)) (c .at) r ⌝ }
+{
+    text::index_plus_one(text, c)
+}
+
+fn one_count(text: &[u8], c: Cursor) -> CountRead
+    requires { ⌜ c .at ≤ length (now text) ⌝ }
+    ensures { λ r. ⌜ Turned (count (drop (c .at) (now (text .entry)))) (now (text .entry)) (c .at) r ⌝ }
+{
+    let end = text::next_if(text, c, b'l');
+    let closed = end.taken;
+    let next = end.next;
+    if closed {
+        return CountRead::Closed(next);
+    }
+    let z = text::next_if(text, next, b'z');
+    let none = z.taken;
+    let after = z.next;
+    if none {
+        return CountRead::Count(0, after);
+    }
+    match count_index(text, after) {
+        Number::Read(n, stop) => CountRead::Count(n, stop),
+        Number::Refused(f) => CountRead::Refused(f),
+    }
+}
+
+pub fn generic_signature(text: &[u8], c: Cursor) -> OperatorRead
+    requires { ⌜ c .at ≤ length (now text) ⌝ }
+    ensures { λ r. ⌜ Operated (signature-letters (drop (c .at) (now (text .entry)))) (now (text .entry)) (c .at) r ⌝ }
+{
+    let mut at = c.at;
+    let mut params = 0;
+    let mut left: usize = 256;
+    while 0 < left {
+        match one_count(text, Cursor { at }) {
+            CountRead::Closed(next) => {
+                return OperatorRead::Read(Operator::GenericSignature(params), next);
+            }
+            CountRead::Refused(f) => {
+                return OperatorRead::Refused(f);
+            }
+            CountRead::Count(n, next) => {
+                params = n;
+                at = next.at;
+            }
+        }
+        left -= 1;
+    }
+    let end = text::next_if(text, Cursor { at }, b'l');
+    let closed = end.taken;
+    let next = end.next;
+    if closed {
+        return OperatorRead::Read(Operator::GenericSignature(params), next);
+    }
+    OperatorRead::Refused(Refusal::Nesting)
+}

@@ -1,0 +1,2 @@
+pub mod StandardTables
+pub mod StandardSteps

@@ -1,0 +1,43 @@
+-- The tables of the letters behind `S` are the definition's: computed tests over the whole table. Assumes nothing.
+use mathlib.Core.Path.{_≡_, refl, ap, _∙_}
+use mathlib.Core.List.{List, [], _∷_}
+use mathlib.Core.Option.{some}
+use Prim.Native.Nat.{ℕ, _+_, _-_, _<_}
+use Prim.Native.String.{String}
+use native.Mathlib.Omega.{arith}
+use lib.ListN.{getD, getElem?}
+use Rattle.definition.specs.Operators.{opened as opened₀}
+use Rattle.definition.specs.Node.{NominalKind}
+use Rattle.definition.specs.Operators.{standard-modules, standard-types}
+use Rattle.fixed_names.specs.Fixed.{fixed-names, fixed}
+use Rattle.letters.specs.Letters.{entries}
+use Rattle.standard_types.specs.Standard.{standard-kind}
+use Rattle.letters.proofs.Listed.{listed, listed-entry}
+
+-- `S`
+modules-right : entries standard-modules ≡ listed fixed 1 2
+unfolding opened₀ entries listed fixed fixed-names
+modules-right = refl
+
+pub module-at : (i : ℕ) → i < 2 → getElem? (entries standard-modules) i ≡ some (fixed (1 + i))
+module-at i h = ap (λ l. getElem? l i) modules-right ∙ listed-entry fixed 1 2 i h
+
+unfoldable pub standard-kinds : List ℕ
+standard-kinds =
+    0 ∷ 0 ∷ 0 ∷ 0 ∷ 0 ∷ 0 ∷ 0 ∷ 0 ∷ 0 ∷ 0 ∷ 0 ∷ 0 ∷ 0 ∷ 0 ∷ 0 ∷ 0 ∷ 0 ∷ 0 ∷ 0 ∷ 0 ∷ 0 ∷ 0 ∷ 0 ∷ 0 ∷ 1 ∷ 2 ∷ 2 ∷ 2 ∷ 2 ∷ 2 ∷ 2 ∷ 2 ∷ 2 ∷ 2 ∷ 2 ∷ 2 ∷ 2 ∷ 2
+    ∷ 2 ∷ 2 ∷ 2 ∷ 2 ∷ 2 ∷ 2 ∷ 2 ∷ 2 ∷ 2 ∷ 2 ∷ []
+
+standard-row : ℕ → NominalKind × String
+standard-row n = (standard-kind (getD standard-kinds (n - 4) 0), fixed n)
+
+standard-right : entries standard-types ≡ listed standard-row 4 48
+unfolding opened₀ entries listed fixed fixed-names standard-row standard-kind standard-kinds
+standard-right = refl
+
+pub standard-at : (i : ℕ) → i < 48 → getElem? (entries standard-types) i ≡ some (standard-kind (getD standard-kinds i 0), fixed (4 + i))
+unfolding standard-row
+standard-at i h =
+    let z : 4 + i - 4 ≡ i = omega arith in
+    ap (λ l. getElem? l i) standard-right
+    ∙ listed-entry standard-row 4 48 i h
+    ∙ ap (λ (n : ℕ). some (standard-kind (getD standard-kinds n 0), fixed (4 + i))) z

@@ -1,0 +1,141 @@
+// `S`: standard types and modules.
+ghost use mathlib.Core.Path.{_≡_};
+ghost use Prim.Native.Nat.{_+_, _≤_, _<_};
+ghost use lib.ListN.{length, drop};
+ghost use Rattle.definition.specs.Text as Text;
+ghost use Rattle.definition.specs.Operators as Op;
+ghost use Rattle.definition.specs.Enums as Enums;
+ghost use Rattle.standard_types.specs.Standard.{standard-kind, standard-type-letter, repeated};
+ghost use Rattle.definition.specs.declared.Operator.the-variants as Operator;
+ghost use Rattle.letters.specs.Answers.{Operated};
+use definition::Leaf;
+use definition::NominalKind;
+use definition::Operator;
+use definition::Refusal;
+use letters::OperatorRead;
+use letters::place_of;
+use text::Byte;
+use text::Cursor;
+use text::Number;
+
+// The letters of the modules; the name of the first is 1.
+const MODULE_LETTERS: [u8; 2] = *b"oC";
+
+// The letters of the standard types, and their kinds: 0 is a struct, 1 an enum, 2 a protocol. The name of the first is 4.
+const STANDARD_LETTERS: [u8; 48] = *b"aAbDdfhIiJNnOPpRrSsuVvWwqBEeFGHjKkLlMmQTtUXxYyZz";
+
+const STANDARD_KINDS: [u8; 48] = [
+    0,
+    0,
+    0,
+    0,
+    0,
+    0,
+    0,
+    0,
+    0,
+    0,
+    0,
+    0,
+    0,
+    0,
+    0,
+    0,
+    0,
+    0,
+    0,
+    0,
+    0,
+    0,
+    0,
+    0,
+    1,
+    2,
+    2,
+    2,
+    2,
+    2,
+    2,
+    2,
+    2,
+    2,
+    2,
+    2,
+    2,
+    2,
+    2,
+    2,
+    2,
+    2,
+    2,
+    2,
+    2,
+    2,
+    2,
+    2,
+];
+
+fn standard_kind(k: u8) -> NominalKind
+    ensures { λ r. ⌜ Enums.nominal-kind r ≡ standard-kind k ⌝ }
+{
+    match k {
+        0 => NominalKind::Struct,
+        1 => NominalKind::Enum,
+        _ => NominalKind::Protocol,
+    }
+}
+
+fn standard_type(c: Cursor, repeat: usize, b: u8) -> OperatorRead
+    ensures { λ r. ⌜ ((t : Text.Text) → c .at ≤ length t → Operated (standard-type-letter repeat b (drop (c .at) t)) t (c .at) r) ⌝ }
+{
+    let i = place_of(&STANDARD_LETTERS, b);
+    if i < 48 {
+        let kind = standard_kind(STANDARD_KINDS[i]);
+        return OperatorRead::Read(
+            Operator::Standard(repeat, Leaf::StandardNominal(kind, 4 + i)),
+            c,
+        );
+    }
+    OperatorRead::Refused(Refusal::Spelling)
+}
+
+fn standard_letter(c: Cursor, repeat: usize, b: u8) -> OperatorRead
+    ensures { λ r. ⌜ ((t : Text.Text) → c .at ≤ length t → Operated (Op.standard-letter repeat b (drop (c .at) t)) t (c .at) r) ⌝ }
+{
+    if b == b'g' {
+        return OperatorRead::Read(Operator::Optional(repeat), c);
+    }
+    let i = place_of(&MODULE_LETTERS, b);
+    if i < 2 {
+        return OperatorRead::Read(Operator::Standard(repeat, Leaf::Module(1 + i)), c);
+    }
+    standard_type(c, repeat, b)
+}
+
+// Behind the count.
+fn standard_repeat(text: &[u8], c: Cursor, repeat: usize) -> OperatorRead
+    ensures { λ r. ⌜ Operated (repeated repeat (drop (c .at) (now (text .entry)))) (now (text .entry)) (c .at) r ⌝ }
+{
+    if repeat == 0 {
+        return OperatorRead::Refused(Refusal::Spelling);
+    }
+    if 4096 < repeat {
+        return OperatorRead::Refused(Refusal::Spelling);
+    }
+    match text::next(text, c) {
+        Byte::Read(b, next) => standard_letter(next, repeat, b),
+        Byte::Refused(f) => OperatorRead::Refused(f),
+    }
+}
+
+pub fn standard(text: &[u8], c: Cursor) -> OperatorRead
+    ensures { λ r. ⌜ Operated (Op.standard-letters (drop (c .at) (now (text .entry)))) (now (text .entry)) (c .at) r ⌝ }
+{
+    if text::peek_is_digit(text, c) {
+        return match text::natural(text, c) {
+            Number::Read(n, next) => standard_repeat(text, next, n),
+            Number::Refused(f) => OperatorRead::Refused(f),
+        };
+    }
+    standard_repeat(text, c, 1)
+}
