@@ -1,20 +1,18 @@
 -- The operators of variables, initializers and functions: a type under a signature, what follows it, and the entity's record.
 use mathlib.Core.Path.{_≡_, refl, sym, ap, _∙_, subst}
 use mathlib.Core.Bool.{Bool}
-use mathlib.Core.List.{List, [], _∷_}
-use mathlib.Core.Option.{Option, some, none}
-use Prim.Native.Nat.{ℕ, suc, _+_, _-_, _*_, _^_, _≤_, _<_}
+use mathlib.Core.List.{List, _∷_}
+use mathlib.Core.Option.{Option}
+use Prim.Native.Nat.{ℕ, _+_, _-_, _≤_, _<_}
 use Prim.Native.String.{String}
 use native.Mathlib.Omega.{arith}
-use lib.ListN.{length, getD}
-use Rattle.definition.specs.Base.{Name, Late, Out, ok, refused, and-then, _>>=_, _>>_}
+use Rattle.definition.specs.Base.{Late, Out, ok, refused, and-then, _>>=_, _>>_, Done}
 use Rattle.definition.specs.Kind as K
 use Rattle.definition.specs.Enums.{number}
 use Rattle.definition.specs.Node.{Labels, Node, Function, Variable, Initializer, kind, size, count, view}
 use Rattle.definition.specs.Machine.{restack, push}
 use Rattle.definition.specs.Perform as R
 use Rattle.definition.specs.Perform.{Demangler, Run}
-use Rattle.definition.specs.Base.{Done}
 use Rattle.definition.specs.declared.Accessor.{Accessor}
 use Rattle.definition.specs.declared.Refusal.{Refusal}
 use Rattle.definition.specs.declared.Refusal.the-variants as Refusal
@@ -22,20 +20,20 @@ use Rattle.records.specs.Lies.{at, flag, Lies, LabelList}
 use Rattle.records.specs.Holds.{Names, Named, Spare, Inside, Holds, Ready, Keeps, for-record, for-push}
 use Rattle.records.specs.declared.State.{State}
 use Rattle.nodes.specs.declared.Marked.{Marked}
-use Rattle.nodes.specs.declared.NameTaken.{NameTaken}
-use Rattle.nodes.specs.declared.NameTaken.the-variants as NameTaken
 use Rattle.nodes.specs.declared.Step.{Step}
 use Rattle.nodes.specs.declared.Step.the-variants as Step
-use Rattle.nodes.specs.Gives.{spare, nothing-spare, full-spare, for-nodes, taken, most, Given, Gives, GivesName, TakesName, Marks, Operates, Ran, Left, Beyond}
+use Rattle.nodes.specs.Gives.{spare, nothing-spare, full-spare, for-nodes, taken, most, Given, Gives, GivesName, Marks, Operates, Left, Beyond}
 use Rattle.nodes.proofs.Taking.{less-spare}
-use Rattle.nodes.proofs.Ready.{after-given, after-mark, after-name, ready-less, room}
-use Rattle.entities.specs.Entities.{Treed, Entity, variable-type, signed-type, GivesType, TakesType, letter, variable-end, LeavesVariable, GivesLabels, TakesLabels}
-use Rattle.entities.specs.declared.LabelsTaken.{LabelsTaken}
-use Rattle.entities.specs.declared.LabelsTaken.the-variants as LabelsTaken
+use Rattle.nodes.proofs.Ready.{after-given, after-mark, after-name, room}
+use Rattle.labels.specs.LabelsOf.{Treed, GivesLabels, TakesLabels}
+use Rattle.entity_records.specs.Leaves.{Entity, letter, variable-end, LeavesVariable}
+use Rattle.entities.specs.Entities.{variable-type, signed-type, GivesType, TakesType}
+use Rattle.labels.specs.declared.LabelsTaken.{LabelsTaken}
+use Rattle.labels.specs.declared.LabelsTaken.the-variants as LabelsTaken
 use Rattle.nodes.specs.declared.Built.{Built}
 use Rattle.nodes.specs.declared.Built.the-variants as Built
-use Rattle.entities.proofs.LabelLists.{assoc, labels-stay}
-use Rattle.entities.proofs.Leavings.{Kids, in-field-4, in-field-5, entity-size, entity-record}
+use Rattle.labels.proofs.LabelLists.{assoc, labels-stay}
+use Rattle.entity_records.proofs.Leavings.{Kids, in-field-4, in-field-5, entity-size, entity-record, named}
 
 -- WHAT WAS TAKEN
 abbrev after-type : Spare
@@ -60,13 +58,6 @@ typed-at f own gain {w} {w′} {N} {st} p u e h = subst (λ (x : Built). TakesTy
 
 pub typed-not : (f : Run Node) (own gain : ℕ) {w w′ : List ℕ} {N : ℕ} {st : State} {r : Built} (e : Refusal) → r ≡ Built.Refused e → TakesType f own gain w w′ N st r → ((nm : Names) (sp : Spare) (m : Demangler) → Holds nm w N st (for-nodes own sp) m → f m ≡ refused (number e)) × Beyond w w′ N
 typed-not f own gain {w} {w′} {N} {st} e q h = subst (λ (x : Built). TakesType f own gain w w′ N st x) q h
-
--- a name's answer
-pub named : {f : Run Name} {w : List ℕ} {N : ℕ} {st : State} {r : NameTaken} (k : ℕ) (u : State) → r ≡ NameTaken.Name k u → TakesName f w N st r → GivesName f w N st k u
-named {f} {w} {N} {st} k u e h = subst (λ (x : NameTaken). TakesName f w N st x) e h
-
-pub nameless : (f : Run Name) {w : List ℕ} {N : ℕ} {st : State} {r : NameTaken} → r ≡ NameTaken.Nothing → TakesName f w N st r → (nm : Names) (sp : Spare) (m : Demangler) → Holds nm w N st sp m → f m ≡ refused 10
-nameless f {w} {N} {st} e h = subst (λ (x : NameTaken). TakesName f w N st x) e h
 
 -- an operator that begins with a type, which is refused
 pub first-refused : (o : (ℕ → String) → Run Done) (f : Run Node) (k : (ℕ → String) → Node → Run Done) (own : ℕ) {w w′ : List ℕ} {N : ℕ} {st : State} (e : Refusal) → own ≤ 4 → ((s : ℕ → String) (m : Demangler) → o s m ≡ and-then (f m) (k s)) →

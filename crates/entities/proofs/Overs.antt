@@ -2,25 +2,25 @@
 use mathlib.Core.Path.{_≡_, refl, sym, ap, _∙_, subst}
 use mathlib.Core.Bool.{Bool}
 use mathlib.Core.List.{List, [], _∷_}
-use Prim.Native.Nat.{ℕ, suc, _+_, _-_, _*_, _^_, _≤_, _<_}
+use Prim.Native.Nat.{ℕ, _+_, _-_}
 use Prim.Native.String.{String}
 use native.Mathlib.Omega.{arith}
-use lib.ListN.{length, getD}
-use Rattle.definition.specs.Base.{bytes, ok, refused, and-then}
+use Rattle.definition.specs.Base.{bytes, refused, and-then}
 use Rattle.definition.specs.Kind as K
 use Rattle.definition.specs.Enums.{number}
-use Rattle.definition.specs.Node.{Node, Deinitializer, ValueWitness, Accessor, kind, size, count, view}
+use Rattle.definition.specs.Node.{Node, Deinitializer, ValueWitness, kind, size, count, view}
 use Rattle.definition.specs.Machine.{restack, push}
 use Rattle.definition.specs.Perform.{Demangler, Run}
 use Rattle.records.specs.Lies.{at, flag}
-use Rattle.records.specs.Holds.{Fixed, Names, Named, Spare, Inside, Holds, Ready, Keeps, for-record, for-push}
+use Rattle.records.specs.Holds.{Fixed, Names, Named, Spare, Holds, Ready, for-record, for-push}
 use Rattle.records.specs.declared.State.{State}
 use Rattle.definition.specs.declared.Refusal.the-variants as Refusal
 use Rattle.nodes.specs.declared.Step.the-variants as Step
 use Rattle.nodes.specs.Gives.{nothing-spare, full-spare, taken, Given, Gives, Operates, Left, Beyond}
 use Rattle.nodes.proofs.Taking.{less-spare}
-use Rattle.nodes.proofs.OneChilds.{given-inside, given-place, given-size, given-room}
-use Rattle.entities.specs.Entities.{Under, OneOver, one-over}
+use Rattle.nodes.proofs.OneChilds.{given-size, given-room}
+use Rattle.entity_records.specs.Leaves.{Under}
+use Rattle.entities.specs.Entities.{OneOver, one-over}
 
 -- a tree that was taken may be a child of a record that is pushed
 pub under : {f : Run Node} {gain : ℕ} {w w₁ : List ℕ} {N : ℕ} {st u : State} {p : ℕ} → Gives f gain w w₁ N st p u → Ready w N st full-spare → Under w₁ N u p
@@ -64,7 +64,3 @@ deinitializer-node b a e = record { kind-is = λ s x. refl; size-is = λ s x. re
 pub value-witness-node : (n a : ℕ) → ((nm : Names) → Fixed (nm .fixed) → Named nm a (bytes (nm .fixed n))) → OneOver K.value-witness a (λ s. ValueWitness (bytes (s n)))
 unfolding kind size count view
 value-witness-node n a e = record { kind-is = λ s x. refl; size-is = λ s x. refl; count-is = λ s x. refl; body = λ nm x f w p i h k. (subst (λ (j : ℕ). Named nm j (bytes (nm .fixed n))) (sym h) (e nm i), k) }
-
--- the size that was read
-pub left-sized : {w w′ : List ℕ} {N : ℕ} {st u : State} {k z y : ℕ} {vs : List ℕ} → z ≡ y → Left w w′ N st u (k ∷ (z + 1) ∷ vs) → Left w w′ N st u (k ∷ (y + 1) ∷ vs)
-left-sized {w} {w′} {N} {st} {u} {k} {z} {y} {vs} e l = subst (λ (i : ℕ). Left w w′ N st u (k ∷ (i + 1) ∷ vs)) e l

@@ -1,13 +1,11 @@
 -- A type under a signature.
 use mathlib.Core.Path.{_≡_, refl, sym, ap, _∙_, subst}
-use mathlib.Core.Bool.{Bool}
 use mathlib.Core.List.{List, [], _∷_}
 use mathlib.Core.Option.{Option, some, none}
-use Prim.Native.Nat.{ℕ, suc, _+_, _-_, _*_, _^_, _≤_, _<_}
+use Prim.Native.Nat.{ℕ, _+_, _-_, _≤_, _<_}
 use native.Mathlib.Omega.{arith}
 use lib.Dec.{eqb}
-use lib.ListN.{length, getD}
-use Rattle.definition.specs.Base.{ok, refused, ret, and-then}
+use Rattle.definition.specs.Base.{ok, refused}
 use Rattle.definition.specs.Kind as K
 use Rattle.definition.specs.Enums.{number}
 use Rattle.definition.specs.Node.{Node, GenericType, kind, size, count, view}
@@ -17,12 +15,12 @@ use Rattle.definition.specs.Perform.{Demangler, Run}
 use Rattle.definition.specs.declared.Refusal.{Refusal}
 use Rattle.definition.specs.declared.Refusal.the-variants as Refusal
 use Rattle.records.specs.Lies.{at, Lies}
-use Rattle.records.specs.Holds.{Names, Named, Spare, Inside, Holds, Ready, Keeps, Grew, for-record}
+use Rattle.records.specs.Holds.{Names, Named, Spare, Inside, Holds, Ready, Keeps, Grew}
 use Rattle.records.specs.declared.State.{State}
-use Rattle.nodes.specs.Gives.{spare, nothing-spare, full-spare, for-nodes, taken, most, Given, Gives, GivesIf, WrapsTo, Beyond, Building, Builds}
+use Rattle.nodes.specs.Gives.{nothing-spare, full-spare, for-nodes, taken, most, Given, Gives, GivesIf, WrapsTo, Beyond, Building, Builds}
 use Rattle.nodes.proofs.Taking.{less-spare, keeps-itself, beyond-itself}
 use Rattle.nodes.proofs.Leaving.{keeps-then}
-use Rattle.entities.specs.Entities.{Signs, signed, weight-of, GivenSigned, GivesSigned, GivesType, TakesType, GivenUnder, GivesUnder, TakesUnder, Signing, variable-type, signed-type}
+use Rattle.entities.specs.Entities.{Signs, signed, weight-of, GivesSigned, GivesType, TakesType, GivenUnder, GivesUnder, TakesUnder, Signing, variable-type, signed-type}
 use Rattle.entities.specs.declared.Signature.{Signature}
 use Rattle.entities.specs.declared.Signature.the-variants as Signature
 use Rattle.entities.specs.declared.Signed.{Signed}

@@ -26,7 +26,7 @@ use Rattle.nodes.specs.declared.Step.{Step}
 use Rattle.nodes.specs.declared.Step.the-variants as Step
 use Rattle.nodes.proofs.Taking.{less-spare}
 use Rattle.nodes.proofs.Ready.{room}
-use Rattle.entities.specs.Entities.{letter}
+use Rattle.entity_records.specs.Leaves.{letter}
 
 -- the definition's operator, by the fixed names
 abbrev pub performed : (N : ℕ) → Operator → Performed

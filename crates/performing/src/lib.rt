@@ -38,7 +38,7 @@ pub fn perform(ws: &mut [u32], n: usize, st: State, op: Operator) -> Step
         Operator::Metatype => nodes::metatype(ws, n, st),
         Operator::Archetype(p) => types::archetype(ws, n, st, p),
         Operator::Requirement(on, constraint) => {
-            entities::requirement(ws, n, st, on, constraint)
+            requirements::requirement(ws, n, st, on, constraint)
         }
         Operator::GenericSignature(params) => types::generic_signature(ws, n, st, params),
         Operator::PlainFunction => entities::plain_function(ws, n, st),

@@ -5,11 +5,6 @@ use Rattle.entities.proofs.Overs.{under, over, over-refused, deinitiali
 use borrow.Author.Needs.{needs}
 use Rattle.entities.proofs.deinitializer.Statement.{statement}
 use Rattle.entities.proofs.deinitializer.Tie as tie
-use Rattle.entities.proofs.deinitializer.Reads as reads
-use Rattle.entities.proofs.deinitializer.Lts as lts
-use Rattle.nodes.proofs.flag.Reads as flag-reads
-use Rattle.entities.proofs.push_over.Reads as push-over-reads
-use Rattle.nodes.proofs.context.Reads as context-reads
 
 -- src/lib.rt:52:11
 context-requires : tie.Need-context-requires

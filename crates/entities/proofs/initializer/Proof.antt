@@ -8,13 +8,6 @@ use Rattle.entities.proofs.Operating.{typed-at, typed-not, typed-treed,
 use borrow.Author.Needs.{needs}
 use Rattle.entities.proofs.initializer.Statement.{statement}
 use Rattle.entities.proofs.initializer.Tie as tie
-use Rattle.entities.proofs.initializer.Reads as reads
-use Rattle.entities.proofs.initializer.Lts as lts
-use Rattle.nodes.proofs.flag.Reads as flag-reads
-use Rattle.entities.proofs.initializer_type.Reads as initializer-type-reads
-use Rattle.entities.proofs.labels.Reads as labels-reads
-use Rattle.entities.proofs.push_entity.Reads as push-entity-reads
-use Rattle.nodes.proofs.context.Reads as context-reads
 
 -- src/lib.rt:374:11
 initializer-type-requires : tie.Need-initializer-type-requires

@@ -8,11 +8,6 @@ use Rattle.entities.proofs.Signatures.{after-signed, as-type, untyped, 
 use borrow.Author.Needs.{needs}
 use Rattle.entities.proofs.initializer_type.Statement.{statement}
 use Rattle.entities.proofs.initializer_type.Tie as tie
-use Rattle.entities.proofs.initializer_type.Reads as reads
-use Rattle.entities.proofs.initializer_type.Lts as lts
-use Rattle.entities.proofs.try_signature.Reads as try-signature-reads
-use Rattle.entities.proofs.under_signature.Reads as under-signature-reads
-use Rattle.nodes.proofs.pop_if.Reads as pop-if-reads
 
 -- src/lib.rt:264:9
 try-signature-requires : tie.Need-try-signature-requires

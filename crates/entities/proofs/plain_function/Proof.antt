@@ -3,17 +3,11 @@ use Rattle.definition.specs.Perform as R
 use Rattle.nodes.proofs.OneChilds.{taken-place, taken-not}
 use Rattle.nodes.proofs.Ready.{ready-none, after-name}
 use Rattle.entities.specs.Entities.{signed-type}
-use Rattle.entities.proofs.Operating.{typed-at, typed-not, typed-treed, after-typed, after-labels, labels-at, labels-not, named, nameless, function-entity, function-room, function-done, function-alone, function-nameless, function-labelless, function-untyped}
+use Rattle.entities.proofs.Operating.{typed-at, typed-not, typed-treed, after-typed, after-labels, labels-at, labels-not, function-entity, function-room, function-done, function-alone, function-nameless, function-labelless, function-untyped}
+use Rattle.entity_records.proofs.Leavings.{named, nameless}
 use borrow.Author.Needs.{needs}
 use Rattle.entities.proofs.plain_function.Statement.{statement}
 use Rattle.entities.proofs.plain_function.Tie as tie
-use Rattle.entities.proofs.plain_function.Reads as reads
-use Rattle.entities.proofs.plain_function.Lts as lts
-use Rattle.entities.proofs.labels.Reads as labels-reads
-use Rattle.entities.proofs.plain_type.Reads as plain-type-reads
-use Rattle.entities.proofs.push_entity.Reads as push-entity-reads
-use Rattle.nodes.proofs.context.Reads as context-reads
-use Rattle.nodes.proofs.pop_name.Reads as pop-name-reads
 
 -- src/lib.rt:401:11
 plain-type-requires : tie.Need-plain-type-requires

@@ -5,11 +5,6 @@ use Rattle.entities.proofs.Signatures.{after-signed, built-at, built-no
 use borrow.Author.Needs.{needs}
 use Rattle.entities.proofs.plain_type.Statement.{statement}
 use Rattle.entities.proofs.plain_type.Tie as tie
-use Rattle.entities.proofs.plain_type.Reads as reads
-use Rattle.entities.proofs.plain_type.Lts as lts
-use Rattle.entities.proofs.try_signature.Reads as try-signature-reads
-use Rattle.entities.proofs.under_signature.Reads as under-signature-reads
-use Rattle.nodes.proofs.function_type.Reads as function-type-reads
 
 -- src/lib.rt:388:9
 try-signature-requires : tie.Need-try-signature-requires

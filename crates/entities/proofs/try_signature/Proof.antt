@@ -5,9 +5,6 @@ use Rattle.entities.proofs.Signatures.{signed-at, unsigned}
 use borrow.Author.Needs.{needs}
 use Rattle.entities.proofs.try_signature.Statement.{statement}
 use Rattle.entities.proofs.try_signature.Tie as tie
-use Rattle.entities.proofs.try_signature.Reads as reads
-use Rattle.entities.proofs.try_signature.Lts as lts
-use Rattle.nodes.proofs.pop_if.Reads as pop-if-reads
 
 -- src/lib.rt:207:11
 pop-if-requires : tie.Need-pop-if-requires

@@ -4,11 +4,6 @@ use Rattle.entities.proofs.Signatures.{signing, signing-at, wrapped-ins
 use borrow.Author.Needs.{needs}
 use Rattle.entities.proofs.under_signature.Statement.{statement}
 use Rattle.entities.proofs.under_signature.Tie as tie
-use Rattle.entities.proofs.under_signature.Reads as reads
-use Rattle.entities.proofs.under_signature.Lts as lts
-use Rattle.nodes.proofs.wrap.Reads as wrap-reads
-use Rattle.records.proofs.field.Reads as field-reads
-use Rattle.records.proofs.grow.Reads as grow-reads
 
 -- src/lib.rt:225:23
 enum-known-signature : tie.Need-enum-known-signature

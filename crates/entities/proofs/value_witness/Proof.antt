@@ -6,10 +6,6 @@ use Rattle.entities.proofs.Overs.{under, over, over-refused, value-witn
 use borrow.Author.Needs.{needs}
 use Rattle.entities.proofs.value_witness.Statement.{statement}
 use Rattle.entities.proofs.value_witness.Tie as tie
-use Rattle.entities.proofs.value_witness.Reads as reads
-use Rattle.entities.proofs.value_witness.Lts as lts
-use Rattle.entities.proofs.push_over.Reads as push-over-reads
-use Rattle.nodes.proofs.pop_if.Reads as pop-if-reads
 
 -- src/lib.rt:64:11
 pop-if-requires : tie.Need-pop-if-requires

@@ -3,17 +3,11 @@ use Rattle.definition.specs.Perform as R
 use Rattle.nodes.proofs.OneChilds.{taken-place, taken-not}
 use Rattle.nodes.proofs.Ready.{ready-none, after-mark, after-name}
 use Rattle.entities.specs.Entities.{variable-type}
-use Rattle.entities.proofs.Operating.{typed-at, typed-not, after-typed, named, nameless, variable-entity, variable-room, variable-done, variable-alone, variable-nameless, variable-untyped}
+use Rattle.entities.proofs.Operating.{typed-at, typed-not, after-typed, variable-entity, variable-room, variable-done, variable-alone, variable-nameless, variable-untyped}
+use Rattle.entity_records.proofs.Leavings.{named, nameless}
 use borrow.Author.Needs.{needs}
 use Rattle.entities.proofs.variable.Statement.{statement}
 use Rattle.entities.proofs.variable.Tie as tie
-use Rattle.entities.proofs.variable.Reads as reads
-use Rattle.entities.proofs.variable.Lts as lts
-use Rattle.entities.proofs.leave_variable.Reads as leave-variable-reads
-use Rattle.entities.proofs.variable_type.Reads as variable-type-reads
-use Rattle.nodes.proofs.context.Reads as context-reads
-use Rattle.nodes.proofs.pop_name.Reads as pop-name-reads
-use Rattle.nodes.proofs.took.Reads as took-reads
 
 -- src/lib.rt:354:11
 variable-type-requires : tie.Need-variable-type-requires

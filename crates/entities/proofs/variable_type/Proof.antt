@@ -6,11 +6,6 @@ use Rattle.entities.proofs.Signatures.{type-signing, variable-typed, va
 use borrow.Author.Needs.{needs}
 use Rattle.entities.proofs.variable_type.Statement.{statement}
 use Rattle.entities.proofs.variable_type.Tie as tie
-use Rattle.entities.proofs.variable_type.Reads as reads
-use Rattle.entities.proofs.variable_type.Lts as lts
-use Rattle.entities.proofs.try_signature.Reads as try-signature-reads
-use Rattle.entities.proofs.under_signature.Reads as under-signature-reads
-use Rattle.nodes.proofs.pop_if.Reads as pop-if-reads
 
 -- src/lib.rt:249:11
 pop-if-requires : tie.Need-pop-if-requires

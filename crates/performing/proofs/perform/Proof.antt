@@ -13,7 +13,7 @@ use Rattle.copies.proofs.standard.Reads as standard-reads
 use Rattle.entities.proofs.deinitializer.Reads as deinitializer-reads
 use Rattle.entities.proofs.initializer.Reads as initializer-reads
 use Rattle.entities.proofs.plain_function.Reads as plain-function-reads
-use Rattle.entities.proofs.requirement.Reads as requirement-reads
+use Rattle.requirements.proofs.requirement.Reads as requirement-reads
 use Rattle.entities.proofs.value_witness.Reads as value-witness-reads
 use Rattle.entities.proofs.variable.Reads as variable-reads
 use Rattle.nodes.proofs.in_out.Reads as in-out-reads

@@ -1,0 +1,2 @@
+pub mod Arities
+pub mod LabelLists
