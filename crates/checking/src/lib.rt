@@ -19,13 +19,13 @@ use budget::Spent;
 use definition::Operator;
 use definition::Refusal;
 use entries::State;
+use identifiers::CountRead;
 use letters::OperatorRead;
 use runs::Final;
 use runs::Written;
 use shape::Step;
 use substitutions::SubstitutionRead;
 use text::Cursor;
-use words::CountRead;
 
 // The state after an operator and the cursor behind it, or its refusal.
 pub enum Turned {
@@ -100,7 +100,7 @@ fn named(text: &[u8], c: Cursor, ws: &mut [u32], ceiling: usize, st: State) -> T
     ensures { λ r. ⌜ Turning (Calls.then-run (Ch.identifier (st .words) (drop (c .at) (now (text .entry)))) (λ x. Ch.name ceiling (x .words))) ceiling (now (text .entry)) (now (ws .entry)) (now (ws .exit)) st r ⌝ }
 {
     let known = st.words;
-    match words::identifier_count(text, c, known) {
+    match identifiers::identifier_count(text, c, known) {
         CountRead::Read(count, next) => Turned::To(shape::name(ws, ceiling, st, count), next),
         CountRead::Refused(f) => Turned::Refused(f),
     }

@@ -4,13 +4,13 @@ ghost use Rattle.words.specs.Table.{Fitting};
 // Runs the readers of bytes on the lines of standard input. A line is a letter, which says the reader, and the text that it is
 // given; what it answers is a line of standard output: the values and the next place, or `!` and the number of the refusal.
 use definition::Refusal;
+use identifiers::CountRead;
+use identifiers::NameRead;
 use symbols::Symbol;
 use text::Cursor;
 use text::Number;
 use text::ParamRead;
 use utf8::IllFormed;
-use words::CountRead;
-use words::NameRead;
 use words::Words;
 
 fn put(n: usize) {
@@ -103,7 +103,7 @@ fn identifiers(text: &[u8], at: usize, w: Words)
     if text.len() <= at {
         return;
     }
-    let r = words::identifier(text, Cursor { at }, w);
+    let r = identifiers::identifier(text, Cursor { at }, w);
     let read = r.read;
     let next = r.words;
     match read {
@@ -123,7 +123,7 @@ fn counted(text: &[u8], at: usize, count: usize)
     if text.len() <= at {
         return;
     }
-    match words::identifier_count(text, Cursor { at }, count) {
+    match identifiers::identifier_count(text, Cursor { at }, count) {
         CountRead::Read(n, c) => {
             let place = c.at;
             show_place(place, n);
@@ -159,7 +159,7 @@ fn spelled(text: &[u8], at: usize, w: Words)
     if text.len() <= at {
         return;
     }
-    let r = words::identifier(text, Cursor { at }, w);
+    let r = identifiers::identifier(text, Cursor { at }, w);
     let read = r.read;
     let next = r.words;
     match read {

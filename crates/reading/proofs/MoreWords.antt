@@ -27,9 +27,9 @@ use Rattle.nodes.proofs.Taking.{less-spare, beyond-itself}
 use Rattle.naming.specs.Naming.{names-of}
 use Rattle.words.specs.Table.{table, Fitting}
 use Rattle.words.specs.declared.Words.{Words}
-use Rattle.words.specs.declared.NameRead.{NameRead}
-use Rattle.words.specs.declared.NameRead.the-variants as NameRead
-use Rattle.words.specs.Answers as Answers
+use Rattle.identifiers.specs.declared.NameRead.{NameRead}
+use Rattle.identifiers.specs.declared.NameRead.the-variants as NameRead
+use Rattle.identifiers.specs.Answers as Answers
 use Rattle.reading.specs.Runs.{Came, step-and-charge, Charged, NameCame, NameFails}
 use Rattle.reading.proofs.TurnSteps.{turn-is, one-name}
 

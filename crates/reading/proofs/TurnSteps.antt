@@ -44,9 +44,9 @@ use Rattle.nodes.specs.declared.Step.the-variants as Step
 use Rattle.nodes.proofs.Taking.{less-spare, beyond-itself}
 use Rattle.words.specs.Table.{table, Fitting}
 use Rattle.words.specs.declared.Words.{Words}
-use Rattle.words.specs.declared.NameRead.{NameRead}
-use Rattle.words.specs.declared.NameRead.the-variants as NameRead
-use Rattle.words.specs.Answers as Words·
+use Rattle.identifiers.specs.declared.NameRead.{NameRead}
+use Rattle.identifiers.specs.declared.NameRead.the-variants as NameRead
+use Rattle.identifiers.specs.Answers as Words·
 use Rattle.naming.specs.Naming.{names-of}
 use Rattle.reading.specs.Runs.{Reads, Came, Comes, Fails, Turning, performs, chained, Performed, step-and-charge, Charged, Begins, NameCame, NameFails, NameTurn}
 use Rattle.reading.specs.declared.Turned.{Turned}

@@ -20,6 +20,7 @@ use budget::Budget;
 use budget::Spent;
 use definition::Operator;
 use definition::Refusal;
+use identifiers::NameRead;
 use letters::OperatorRead;
 use nodes::Step;
 use records::Fields;
@@ -28,7 +29,6 @@ use runs::Final;
 use runs::Written;
 use substitutions::SubstitutionRead;
 use text::Cursor;
-use words::NameRead;
 use words::Words;
 
 // The state after an operator and the cursor behind it, or its refusal.
@@ -206,7 +206,7 @@ fn name_turn(
 {
     match begin(n, st) {
         Begun::Next(u) => {
-            let read = words::identifier(text, c, words);
+            let read = identifiers::identifier(text, c, words);
             let got = read.read;
             let after = read.words;
             let at = c.at;

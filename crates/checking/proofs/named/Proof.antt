@@ -2,7 +2,7 @@
 use mathlib.Core.Path.{subst}
 use lib.ListN.{drop}
 use Rattle.definition.specs.Check as Ch
-use Rattle.words.specs.Answers.{Counted, Counts}
+use Rattle.identifiers.specs.Answers.{Counted, Counts}
 use Rattle.shape.proofs.Sounds.{sound-name}
 use Rattle.checking.proofs.Answers.{then-wrote, not-read}
 use borrow.Author.Needs.{needs}

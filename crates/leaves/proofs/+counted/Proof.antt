@@ -1,5 +1,5 @@
 use native.Mathlib.Omega.{arith}
-use Rattle.words.proofs.Answers.{count-read}
+use Rattle.identifiers.proofs.Answers.{count-read}
 use borrow.Author.Needs.{needs}
 use Prim.Native.Nat.{_-_}
 use lib.ListN.{length}
@@ -12,7 +12,7 @@ use Rattle.leaves.proofs.counted.Kinds as counted-kinds
 use Rattle.leaves.proofs.+counted.Lts-counted as counted-lts
 use Rattle.leaves.proofs.refused.Reads as refused-reads
 use Rattle.leaves.proofs.show_place.Reads as show-place-reads
-use Rattle.words.proofs.identifier_count.Reads as identifier-count-reads
+use Rattle.identifiers.proofs.identifier_count.Reads as identifier-count-reads
 use Rattle.leaves.proofs.+counted.{statement}
 use Rattle.leaves.proofs.+counted.Tie.{close}
 

@@ -1,5 +1,5 @@
 use native.Mathlib.Omega.{arith}
-use Rattle.words.proofs.Answers.{identifier-read}
+use Rattle.identifiers.proofs.Answers.{identifier-read}
 use borrow.Author.Needs.{needs}
 use Prim.Native.Nat.{_-_}
 use lib.ListN.{length}
@@ -12,7 +12,7 @@ use Rattle.leaves.proofs.identifiers.Kinds as identifiers-kinds
 use Rattle.leaves.proofs.+identifiers.Lts-identifiers as identifiers-lts
 use Rattle.leaves.proofs.refused.Reads as refused-reads
 use Rattle.leaves.proofs.show_place.Reads as show-place-reads
-use Rattle.words.proofs.identifier.Reads as identifier-reads
+use Rattle.identifiers.proofs.identifier.Reads as identifier-reads
 use Rattle.leaves.proofs.+identifiers.{statement}
 use Rattle.leaves.proofs.+identifiers.Tie.{close}
 

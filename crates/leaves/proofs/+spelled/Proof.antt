@@ -1,5 +1,5 @@
 use native.Mathlib.Omega.{arith}
-use Rattle.words.proofs.Answers.{identifier-read}
+use Rattle.identifiers.proofs.Answers.{identifier-read}
 use borrow.Author.Needs.{needs}
 use Prim.Native.Nat.{_-_}
 use lib.ListN.{length}
@@ -13,7 +13,7 @@ use Rattle.leaves.proofs.+spelled.Lts-spelled as spelled-lts
 use Rattle.io.proofs.buffer.Reads as buffer-reads
 use Rattle.leaves.proofs.refused.Reads as refused-reads
 use Rattle.leaves.proofs.show_name.Reads as show-name-reads
-use Rattle.words.proofs.identifier.Reads as identifier-reads
+use Rattle.identifiers.proofs.identifier.Reads as identifier-reads
 use Rattle.leaves.proofs.+spelled.{statement}
 use Rattle.leaves.proofs.+spelled.Tie.{close}
 

@@ -9,7 +9,7 @@ use Rattle.reading.proofs.name_turn.Reads as reads
 use Rattle.reading.proofs.name_turn.Lts as lts
 use Rattle.reading.proofs.begin.Reads as begin-reads
 use Rattle.reading.proofs.name.Reads as name-reads
-use Rattle.words.proofs.identifier.Reads as identifier-reads
+use Rattle.identifiers.proofs.identifier.Reads as identifier-reads
 
 -- src/lib.rt:199:11
 begin-requires : tie.Need-begin-requires
