@@ -1,4 +1,2 @@
 pub mod Reading
-pub mod Steps
-pub mod Table
 pub mod Loops

@@ -14,12 +14,13 @@ use Rattle.definition.specs.Base.{Name, same}
 use Rattle.definition.specs.Text.{Text}
 use Rattle.words.specs.Table.{part, table}
 use Rattle.words.specs.declared.Words.{Words}
-use Rattle.spelling.specs.Pieces.{Piece, piece, end, piece-of, lead, Follows, nothing, after}
+use Rattle.pieces.specs.Pieces.{Piece, piece, end, piece-of, lead, Follows, nothing, after}
 use Rattle.output.specs.Sink.{Room, Wrote, Rest, rest-start, rest-then, rest-end, rest-past}
-use Rattle.spelling.specs.Spelled.{Spells, LengthIs, Appended, Begun, Taken, PieceIs}
-use Rattle.spelling.specs.declared.Speller.{Speller}
-use Rattle.spelling.specs.declared.Piece.{Piece as Answer}
-use Rattle.spelling.specs.declared.Piece.the-variants as Answer
+use Rattle.spelling.specs.Spelled.{Spells, LengthIs, Appended}
+use Rattle.pieces.specs.Answers.{Begun, Taken, PieceIs}
+use Rattle.pieces.specs.declared.Speller.{Speller}
+use Rattle.pieces.specs.declared.Piece.{Piece as Answer}
+use Rattle.pieces.specs.declared.Piece.the-variants as Answer
 use Rattle.words.proofs.Parts.{part-length}
 use Rattle.text.proofs.Steps.{front, ended, differ}
 use Rattle.spelling.proofs.Reading.{spelled-again}

@@ -12,7 +12,7 @@ use Rattle.definition.specs.Base.{Name, if_then_else_, is, lower, upper, Out, o
 use Rattle.definition.specs.Text.{Text, peek, next-if, natural, well-formed}
 use Rattle.definition.specs.Words.{note-words, Spelled, spelled, word-letters, take-bytes, literal, Identified, identified, identifier-from, is-empty, identifier}
 use Rattle.definition.proofs.WordsAdded.{Begins, begins-trans, found-again, identifier-from-begins}
-use Rattle.spelling.specs.Pieces.{Piece, piece, end, mark, counted, of-bytes, of-length, unless-closed, literal-piece, of-word, piece-of, Lead, lead, second-zero, start, Follows, nothing, after}
+use Rattle.pieces.specs.Pieces.{Piece, piece, end, mark, counted, of-bytes, of-length, unless-closed, literal-piece, of-word, piece-of, Lead, lead, second-zero, start, Follows, nothing, after}
 
 -- STEPS THAT ARE NOT REFUSED
 module _ {S A B : Type 0} where

@@ -1,20 +1,15 @@
 -- A name that is spelled again from its place in the text (01, "Words"), and what the functions of this crate say of it. Assumes nothing.
 use mathlib.Core.Path.{_≡_, refl, subst⁻¹}
-use mathlib.Core.Bool.{Bool}
 use mathlib.Core.List.{List}
-use Prim.Native.Nat.{ℕ, _^_, _≤_, _<_}
+use Prim.Native.Nat.{ℕ, _^_, _<_}
 use lib.ListN.{length, drop}
-use Rattle.definition.specs.Base.{Name, Out, ok}
+use Rattle.definition.specs.Base.{Name, ok}
 use Rattle.definition.specs.Text.{Text}
 use Rattle.definition.specs.Words as W
 use Rattle.definition.proofs.WordsAdded.{Begins, begins-refl, begins-trans}
-use Rattle.words.specs.Table.{part, table}
+use Rattle.words.specs.Table.{table}
 use Rattle.words.specs.declared.Words.{Words}
 use Rattle.output.specs.Sink.{Room, Wrote}
-use Rattle.spelling.specs.Pieces as P
-use Rattle.spelling.specs.declared.Speller.{Speller}
-use Rattle.spelling.specs.declared.Piece.{Piece}
-use Rattle.spelling.specs.declared.Piece.the-variants as Piece
 
 -- The identifier at the place p of the text was read with the words that were known then, and is this name.
 -- The table w is the one that it left, or a later one
@@ -45,29 +40,3 @@ pub record Appended (text : Text) (w : Words) (p room : ℕ) (o o' : List ℕ) (
   pub is : (name : Name) → Spells text w p name → Wrote room o o' at name r
   pub next : Room room o' r
   pub len : length o' ≡ length o
-
--- PIECE BY PIECE
--- a cursor behind the lead of an identifier
-pub record Begun (text : Text) (p : ℕ) (s : Speller) : Type 0 where
-  pub is : P.start (drop p text) ≡ ok (P.lead (s .more) (s .punycoded)) (drop (s .at) text)
-  pub inside : s .at ≤ length text
-
--- the piece is text[from..to], and the next cursor lies at `least` or later
-pub record Taken (out : P.Piece) (text : Text) (least : ℕ) (punycoded : Bool) (from to : ℕ) (next : Speller) : Type 0 where
-  pub is : out ≡ P.piece (part text from to) (next .more) (drop (next .at) text)
-  pub kept : next .punycoded ≡ punycoded
-  pub order : from ≤ to
-  pub inside : to ≤ length text
-  pub onward : least ≤ next .at
-  pub within : next .at ≤ length text
-
-abbrev pub PieceIs : P.Piece → Text → ℕ → Bool → Piece → Type 0
-PieceIs out text least punycoded (Piece.Part from to next) = Taken out text least punycoded from to next
-PieceIs out text least punycoded Piece.End = out ≡ P.end
-
--- the mark behind a length was passed over, if it stands there
-pub record Passed (out : Out Text Bool) (text : Text) (from to : ℕ) : Type 0 where
-  pub was : Bool
-  pub is : out ≡ ok was (drop to text)
-  pub onward : from ≤ to
-  pub inside : to ≤ length text

@@ -5,8 +5,8 @@ use lib.ListN.{length, drop}
 use borrow.Author.Needs.{needs}
 use borrow.Author.Tests.{not-true, not-false}
 use Rattle.words.specs.Table.{table}
-use Rattle.spelling.specs.Pieces.{piece-of}
-use Rattle.spelling.specs.Spelled.{Taken}
+use Rattle.pieces.specs.Pieces.{piece-of}
+use Rattle.pieces.specs.Answers.{Taken}
 use Rattle.spelling.proofs.Loops.{taken-part, taken-end, Comparing, comparing-first, comparing-fits, comparing-next, comparing-differs, comparing-end}
 use Rattle.spelling.proofs.name_is.Statement.{statement}
 use Rattle.spelling.proofs.name_is.Tie as tie

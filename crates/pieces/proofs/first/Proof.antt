@@ -1,10 +1,10 @@
--- `spelling::first` meets its contract. Assumes nothing.
+-- `pieces::first` meets its contract. Assumes nothing.
 use lib.ListN.{drop}
 use borrow.Author.Needs.{needs}
 use Rattle.text.proofs.Steps.{taken-is}
-use Rattle.spelling.proofs.Steps.{start-plain, start-zero}
-use Rattle.spelling.proofs.first.Statement.{statement}
-use Rattle.spelling.proofs.first.Tie as tie
+use Rattle.pieces.proofs.Steps.{start-plain, start-zero}
+use Rattle.pieces.proofs.first.Statement.{statement}
+use Rattle.pieces.proofs.first.Tie as tie
 
 next-if-requires : tie.Need-next-if-requires
 next-if-requires c κs = search needs

@@ -1,12 +1,12 @@
--- `spelling::counted` meets its contract. Assumes nothing.
+-- `pieces::counted` meets its contract. Assumes nothing.
 use mathlib.Core.Path.{refl}
 use Prim.Native.Nat.{_<_}
 use native.Mathlib.Omega.{arith}
 use lib.ListN.{drop}
 use borrow.Author.Needs.{needs}
-use Rattle.spelling.proofs.Steps.{counted-none, counted-short, counted-more, counted-last}
-use Rattle.spelling.proofs.counted.Statement.{statement}
-use Rattle.spelling.proofs.counted.Tie as tie
+use Rattle.pieces.proofs.Steps.{counted-none, counted-short, counted-more, counted-last}
+use Rattle.pieces.proofs.counted.Statement.{statement}
+use Rattle.pieces.proofs.counted.Tie as tie
 
 returns : tie.Need-returns
 returns c = counted-none (c .before .before .args .more) (c .before .before .args .punycoded) (c .before .before .args .n) (drop (c .before .before .args .at) (c .before .before .args .text .now)) (c .if1 .taken)

@@ -1,12 +1,12 @@
--- `spelling::behind_mark` meets its contract. Assumes nothing.
+-- `pieces::behind_mark` meets its contract. Assumes nothing.
 use mathlib.Core.Path.{ap, _∙_}
 use mathlib.Core.Bool.{Bool, false}
 use native.Mathlib.Omega.{arith}
 use lib.ListN.{drop}
 use borrow.Author.Needs.{needs}
-use Rattle.spelling.specs.Pieces.{mark}
-use Rattle.spelling.proofs.behind_mark.Statement.{statement}
-use Rattle.spelling.proofs.behind_mark.Tie as tie
+use Rattle.pieces.specs.Pieces.{mark}
+use Rattle.pieces.proofs.behind_mark.Statement.{statement}
+use Rattle.pieces.proofs.behind_mark.Tie as tie
 
 next-if-requires : tie.Need-next-if-requires
 next-if-requires c κs = search needs

@@ -1,12 +1,12 @@
--- `spelling::word` meets its contract. Assumes nothing.
+-- `pieces::word` meets its contract. Assumes nothing.
 use native.Mathlib.Omega.{arith}
 use lib.ListN.{getD}
 use mir.Syntax.{w16}
 use mir.Val.{Fits}
 use borrow.Author.Needs.{needs}
-use Rattle.spelling.proofs.Table.{no-word, the-word}
-use Rattle.spelling.proofs.word.Statement.{statement}
-use Rattle.spelling.proofs.word.Tie as tie
+use Rattle.pieces.proofs.Table.{no-word, the-word}
+use Rattle.pieces.proofs.word.Statement.{statement}
+use Rattle.pieces.proofs.word.Tie as tie
 
 returns : tie.Need-returns
 returns c = λ text g l. no-word text (c .before .args .w) (c .before .args .i) (c .before .args .next) (c .if1 .taken)

@@ -1,4 +1,4 @@
--- `spelling::literal` meets its contract. Assumes nothing.
+-- `pieces::literal` meets its contract. Assumes nothing.
 use Prim.Native.Nat.{_+_, _≤_, _^_}
 use native.Mathlib.Omega.{arith}
 use lib.ListN.{drop}
@@ -6,9 +6,9 @@ use borrow.Author.Needs.{needs}
 use Rattle.definition.specs.Text.{natural}
 use Rattle.text.specs.Cursor.{Stands}
 use Rattle.text.proofs.Steps.{taken-is, number-read, number-refused}
-use Rattle.spelling.proofs.Steps.{piece-is, literal-closed, literal-refused, literal-read}
-use Rattle.spelling.proofs.literal.Statement.{statement}
-use Rattle.spelling.proofs.literal.Tie as tie
+use Rattle.pieces.proofs.Steps.{piece-is, literal-closed, literal-refused, literal-read}
+use Rattle.pieces.proofs.literal.Statement.{statement}
+use Rattle.pieces.proofs.literal.Tie as tie
 
 size : (c : tie.After-n) → Stands (natural (drop (c .before .before .before .before .before .next-if .result .next .at) (c .before .before .before .before .before .before .before .args .text .now))) (c .n .given .0 .0) (2 ^ 64) (c .before .before .before .before .before .before .before .args .text .now) (c .before .before .before .before .before .next-if .result .next .at + 1) (c .n .given .0 .1 .0)
 size c = number-read (c .before .before .before .before .before .before .before .args .text .now) (c .before .before .before .before .before .next-if .result .next .at) (c .n .given .1) (c .before .before .natural .ensures)

@@ -11,9 +11,9 @@ use Rattle.definition.specs.Base.{Name}
 use Rattle.definition.specs.Text.{Text}
 use Rattle.words.specs.Table.{word-of, words-of, table, Fitting}
 use Rattle.words.specs.declared.Words.{Words}
-use Rattle.spelling.specs.Pieces.{piece, end, of-word}
-use Rattle.spelling.specs.Spelled.{Taken}
-use Rattle.spelling.specs.declared.Speller.{Speller}
+use Rattle.pieces.specs.Pieces.{piece, end, of-word}
+use Rattle.pieces.specs.Answers.{Taken}
+use Rattle.pieces.specs.declared.Speller.{Speller}
 
 found-before : (ws : List Name) (w : Name) (i : ℕ) → i < length ws → getElem? (ws ++ (w ∷ [])) i ≡ getElem? ws i
 found-before [] w i h = absurd (omega arith)

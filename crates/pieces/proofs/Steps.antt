@@ -14,11 +14,11 @@ use Rattle.definition.specs.Text.{Text, next-if, natural}
 use Rattle.definition.specs.Words.{take-bytes}
 use Rattle.text.proofs.Steps.{front, ended, differ}
 use Rattle.words.specs.Table.{part}
-use Rattle.spelling.specs.Pieces.{Piece, piece, end, mark, counted, of-bytes, of-length, unless-closed, literal-piece, of-word, piece-of, lead, second-zero, start}
-use Rattle.spelling.specs.Spelled.{Taken, PieceIs, Passed}
-use Rattle.spelling.specs.declared.Speller.{Speller}
-use Rattle.spelling.specs.declared.Piece.{Piece as Answer}
-use Rattle.spelling.specs.declared.Piece.the-variants as Answer
+use Rattle.pieces.specs.Pieces.{Piece, piece, end, mark, counted, of-bytes, of-length, unless-closed, literal-piece, of-word, piece-of, lead, second-zero, start}
+use Rattle.pieces.specs.Answers.{Taken, PieceIs, Passed}
+use Rattle.pieces.specs.declared.Speller.{Speller}
+use Rattle.pieces.specs.declared.Piece.{Piece as Answer}
+use Rattle.pieces.specs.declared.Piece.the-variants as Answer
 
 -- THE LEAD
 module _ (t : Text) {u : Text} where

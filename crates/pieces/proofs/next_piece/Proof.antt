@@ -1,4 +1,4 @@
--- `spelling::next_piece` meets its contract. Assumes nothing.
+-- `pieces::next_piece` meets its contract. Assumes nothing.
 use mathlib.Core.Path.{_≡_, sym, ap, _∙_}
 use mathlib.Core.Bool.{Bool, true, false}
 use mathlib.Core.Logic.{⊎-elim}
@@ -9,10 +9,10 @@ use lib.ListN.{length, getD, drop}
 use borrow.Author.Needs.{needs}
 use Rattle.definition.specs.Base.{lower, upper}
 use Rattle.words.specs.Table.{table}
-use Rattle.spelling.specs.Pieces.{literal-piece, piece-of}
-use Rattle.spelling.proofs.Steps.{piece-is, piece-small, piece-capital, piece-other, piece-past, piece-plain, small-low, small-high, capital-low, capital-high}
-use Rattle.spelling.proofs.next_piece.Statement.{statement}
-use Rattle.spelling.proofs.next_piece.Tie as tie
+use Rattle.pieces.specs.Pieces.{literal-piece, piece-of}
+use Rattle.pieces.proofs.Steps.{piece-is, piece-small, piece-capital, piece-other, piece-past, piece-plain, small-low, small-high, capital-low, capital-high}
+use Rattle.pieces.proofs.next_piece.Statement.{statement}
+use Rattle.pieces.proofs.next_piece.Tie as tie
 
 small : (c : tie.Then3) → lower (getD (c .before .before .before .before .before .before .args .text .now) (c .before .before .before .before .before .before .args .s .at) 0) ≡ true
 small c = sym (c .before .is-lower .ensures) ∙ c .if3 .taken

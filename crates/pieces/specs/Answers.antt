@@ -1,0 +1,38 @@
+-- What the functions of this crate say of an identifier's pieces. Assumes nothing.
+use mathlib.Core.Path.{_≡_}
+use mathlib.Core.Bool.{Bool}
+use Prim.Native.Nat.{ℕ, _≤_}
+use lib.ListN.{length, drop}
+use Rattle.definition.specs.Base.{Out, ok}
+use Rattle.definition.specs.Text.{Text}
+use Rattle.words.specs.Table.{part}
+use Rattle.pieces.specs.Pieces as P
+use Rattle.pieces.specs.declared.Speller.{Speller}
+use Rattle.pieces.specs.declared.Piece.{Piece}
+use Rattle.pieces.specs.declared.Piece.the-variants as Piece
+
+-- PIECE BY PIECE
+-- a cursor behind the lead of an identifier
+pub record Begun (text : Text) (p : ℕ) (s : Speller) : Type 0 where
+  pub is : P.start (drop p text) ≡ ok (P.lead (s .more) (s .punycoded)) (drop (s .at) text)
+  pub inside : s .at ≤ length text
+
+-- the piece is text[from..to], and the next cursor lies at `least` or later
+pub record Taken (out : P.Piece) (text : Text) (least : ℕ) (punycoded : Bool) (from to : ℕ) (next : Speller) : Type 0 where
+  pub is : out ≡ P.piece (part text from to) (next .more) (drop (next .at) text)
+  pub kept : next .punycoded ≡ punycoded
+  pub order : from ≤ to
+  pub inside : to ≤ length text
+  pub onward : least ≤ next .at
+  pub within : next .at ≤ length text
+
+abbrev pub PieceIs : P.Piece → Text → ℕ → Bool → Piece → Type 0
+PieceIs out text least punycoded (Piece.Part from to next) = Taken out text least punycoded from to next
+PieceIs out text least punycoded Piece.End = out ≡ P.end
+
+-- the mark behind a length was passed over, if it stands there
+pub record Passed (out : Out Text Bool) (text : Text) (from to : ℕ) : Type 0 where
+  pub was : Bool
+  pub is : out ≡ ok was (drop to text)
+  pub onward : from ≤ to
+  pub inside : to ≤ length text

@@ -1,0 +1,166 @@
+// The pieces of an identifier, one after another, by the table of words.
+ghost use Prim.Native.Nat.{_+_, _≤_};
+ghost use lib.ListN.{length, drop, getElem?};
+ghost use Rattle.definition.specs.Text.{Text};
+ghost use Rattle.words.specs.Table.{table, Fitting};
+ghost use Rattle.pieces.specs.Pieces as P;
+ghost use Rattle.pieces.specs.Answers.{Begun, PieceIs, Passed};
+use letters::is_lower;
+use letters::is_upper;
+use text::Cursor;
+use text::Number;
+use text::natural;
+use text::next_if;
+use words::Words;
+
+// A cursor into an identifier: whether words by letter may come, and whether it is punycode.
+pub struct Speller {
+    at: usize,
+    more: bool,
+    punycoded: bool,
+}
+
+// What stands at the cursor: the bytes text[from..to], with the next cursor; or nothing more.
+pub enum Piece {
+    Part(usize, usize, Speller),
+    End,
+}
+
+// The cursor behind the lead `0` or `00`.
+pub fn first(text: &[u8], p: usize) -> Speller
+    requires { ⌜ p ≤ length (now text) ⌝ }
+    ensures { λ r. ⌜ Begun (now (text .entry)) p r ⌝ }
+{
+    let one = next_if(text, Cursor { at: p }, b'0');
+    let zero = one.taken;
+    let next = one.next;
+    if zero {
+        let two = next_if(text, next, b'0');
+        let punycoded = two.taken;
+        let behind = two.next;
+        return Speller {
+            at: behind.at,
+            more: !punycoded,
+            punycoded,
+        };
+    }
+    Speller {
+        at: next.at,
+        more: false,
+        punycoded: false,
+    }
+}
+
+// The word that a letter stands for, with the cursor behind the letter.
+fn word(w: Words, i: usize, next: Speller) -> Piece
+    requires { ⌜ w .count ≤ 26 ⌝ }
+    ensures { λ r. ⌜ ((text : Text) → Fitting text w → next .at ≤ length text → PieceIs (P.of-word (getElem? (table text w) i) (next .more) (drop (next .at) text)) text (next .at) (next .punycoded) r) ⌝ }
+{
+    let count = w.count;
+    if count <= i {
+        return Piece::End;
+    }
+    let starts = w.starts;
+    let lengths = w.lengths;
+    let from = starts[i] as usize;
+    let to = from + lengths[i] as usize;
+    Piece::Part(from, to, next)
+}
+
+// The place behind the `_` that may stand behind the length of a punycode name.
+fn behind_mark(text: &[u8], at: usize, punycoded: bool) -> usize
+    requires { ⌜ at ≤ length (now text) ⌝ }
+    ensures { λ r. ⌜ Passed (P.mark punycoded (drop at (now (text .entry)))) (now (text .entry)) at r ⌝ }
+{
+    if punycoded {
+        let mark = next_if(text, Cursor { at }, b'_');
+        let next = mark.next;
+        return next.at;
+    }
+    at
+}
+
+// The n bytes behind a length, which ends at `at`. Where no words by letter may come, the name ends with them: no text is left.
+fn counted(text: &[u8], at: usize, n: usize, more: bool, punycoded: bool) -> Piece
+    requires { ⌜ at ≤ length (now text) ⌝ }
+    ensures { λ r. ⌜ PieceIs (P.of-bytes more (P.counted punycoded n (drop at (now (text .entry))))) (now (text .entry)) at punycoded r ⌝ }
+{
+    if n == 0 {
+        return Piece::End;
+    }
+    let from = behind_mark(text, at, punycoded);
+    let len = text.len();
+    if len - from < n {
+        return Piece::End;
+    }
+    let to = from + n;
+    if more {
+        let next = Speller {
+            at: to,
+            more,
+            punycoded,
+        };
+        return Piece::Part(from, to, next);
+    }
+    let last = Speller {
+        at: len,
+        more,
+        punycoded,
+    };
+    Piece::Part(from, to, last)
+}
+
+// A length and its bytes, unless a `0` ends the name.
+fn literal(text: &[u8], at: usize, more: bool, punycoded: bool) -> Piece
+    requires { ⌜ at ≤ length (now text) ⌝ }
+    ensures { λ r. ⌜ PieceIs (P.literal-piece more punycoded (drop at (now (text .entry)))) (now (text .entry)) (at + 1) punycoded r ⌝ }
+{
+    let zero = next_if(text, Cursor { at }, b'0');
+    let closed = zero.taken;
+    let next = zero.next;
+    if closed {
+        return Piece::End;
+    }
+    match natural(text, next) {
+        Number::Read(n, c) => counted(text, c.at, n, more, punycoded),
+        Number::Refused(_) => Piece::End,
+    }
+}
+
+// The piece at the cursor.
+pub fn next_piece(text: &[u8], w: Words, s: Speller) -> Piece
+    requires { ⌜ (s .at ≤ length (now text)) × Fitting (now text) w ⌝ }
+    ensures { λ r. ⌜ PieceIs (P.piece-of (table (now (text .entry)) w) (s .more) (s .punycoded) (drop (s .at) (now (text .entry)))) (now (text .entry)) (s .at + 1) (s .punycoded) r ⌝ }
+{
+    let at = s.at;
+    let more = s.more;
+    let punycoded = s.punycoded;
+    if more {
+        if at < text.len() {
+            let b = text[at];
+            if is_lower(b) {
+                return word(
+                    w,
+                    (b - 97) as usize,
+                    Speller {
+                        at: at + 1,
+                        more: true,
+                        punycoded,
+                    },
+                );
+            }
+            if is_upper(b) {
+                return word(
+                    w,
+                    (b - 65) as usize,
+                    Speller {
+                        at: at + 1,
+                        more: false,
+                        punycoded,
+                    },
+                );
+            }
+        }
+    }
+    literal(text, at, more, punycoded)
+}
