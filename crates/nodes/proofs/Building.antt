@@ -1,13 +1,11 @@
 -- Function types and conformances: trees that are made of what is taken.
 use mathlib.Core.Path.{_≡_, refl, sym, ap, _∙_, subst}
-use mathlib.Core.Bool.{Bool, true, false}
+use mathlib.Core.Bool.{Bool}
 use mathlib.Core.List.{List, [], _∷_}
-use Prim.Native.Nat.{ℕ, suc, _+_, _-_, _*_, _^_, _≤_, _<_}
+use Prim.Native.Nat.{ℕ, _+_, _-_, _≤_}
 use native.Mathlib.Omega.{arith}
 use lib.Dec.{eqb}
-use lib.ListN.{length, getD}
-use Rattle.definition.specs.Base.{Out, ok, refused, if_then_else_, and-then, _>>=_, _>>_, ret}
-use Rattle.definition.specs.Enums.{number}
+use Rattle.definition.specs.Base.{refused, if_then_else_}
 use Rattle.definition.specs.Kind as K
 use Rattle.definition.specs.Node.{Node, FunctionType, Conformance, kind, size, count, view, param-count}
 use Rattle.definition.specs.Machine as M

@@ -1,10 +1,9 @@
 -- A tree whose kind is known.
 use mathlib.Core.Path.{_≡_, refl}
-use mathlib.Core.List.{List}
-use Prim.Native.Nat.{ℕ, _+_, _≤_}
+use Prim.Native.Nat.{_≤_}
 use native.Mathlib.Omega.{arith}
 use lib.Dec.{T, eqb}
-use Rattle.definition.specs.Base.{Name, if_then_else_}
+use Rattle.definition.specs.Base.{if_then_else_}
 use Rattle.definition.specs.Kind as K
 use Rattle.definition.specs.Node as N
 use Rattle.definition.specs.Node.{Node, Nodes, Identifier, Module, Nominal, GenericParam, DependentMember, Tuple, FunctionType, GenericType, GenericSignature, ConformanceRequirement, SameTypeRequirement, ProtocolList, Metatype, InOut, BoundGeneric, Function, Variable, Accessor, Initializer, Deinitializer, VariableInitializer, Static, Record, Conformance, ProtocolWitness, ValueWitness, EmptyList, FirstElementMarker, VariadicMarker, Throws, Async, LazyWitness, AssociatedConformance, kind, nominal-kind, size, view, count, param-count, name-of}

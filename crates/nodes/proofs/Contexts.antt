@@ -2,10 +2,9 @@
 use mathlib.Core.Path.{_≡_, refl, sym, ap, _∙_, subst}
 use mathlib.Core.Bool.{Bool, true, false}
 use mathlib.Core.List.{List, [], _∷_}
-use Prim.Native.Nat.{ℕ, suc, _+_, _-_, _*_, _^_, _≤_, _<_}
+use Prim.Native.Nat.{ℕ, _-_, _<_}
 use native.Mathlib.Omega.{arith}
-use lib.Dec.{T, eqb}
-use lib.ListN.{length, getD}
+use lib.Dec.{T}
 use Rattle.definition.specs.Base.{Out, ok, refused, if_then_else_, and-then, ret, refuse}
 use Rattle.definition.specs.Kind as K
 use Rattle.definition.specs.Node.{Node, Identifier, Module, kind, size, count, view, name-of}
@@ -13,10 +12,10 @@ use Rattle.definition.specs.Machine as M
 use Rattle.definition.specs.Machine.{restack}
 use Rattle.definition.specs.Perform as R
 use Rattle.definition.specs.Perform.{Demangler, Run}
-use Rattle.records.specs.Lies.{at, Lies, Lay}
+use Rattle.records.specs.Lies.{at, Lies}
 use Rattle.records.specs.Holds.{Names, Named, Spare, Inside, Holds, Ready, TopIs, Took, Keeps, Grew, for-record, for-push}
 use Rattle.records.specs.declared.State.{State}
-use Rattle.nodes.specs.Gives.{nothing-spare, taken, Given, Gives}
+use Rattle.nodes.specs.Gives.{nothing-spare, taken, Gives}
 use Rattle.nodes.proofs.ByKind.{identifier-of}
 use Rattle.nodes.proofs.Taking.{took-below, took-small, keeps-itself, less-spare}
 

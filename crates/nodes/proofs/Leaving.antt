@@ -1,25 +1,24 @@
 -- A new record on the stack, and one wrap more.
 use mathlib.Core.Path.{_≡_, refl, sym, ap, _∙_, subst}
 use mathlib.Core.Bool.{Bool, true, false}
-use mathlib.Core.List.{List, [], _∷_}
-use Prim.Native.Nat.{ℕ, suc, _+_, _-_, _*_, _^_, _≤_, _<_}
+use mathlib.Core.List.{List}
+use Prim.Native.Nat.{ℕ, suc, _+_, _-_, _≤_}
 use native.Mathlib.Omega.{arith}
 use lib.Dec.{ltb}
-use lib.ListN.{length, getD}
 use Rattle.definition.specs.Base.{Done, Out, ok, refused, if_then_else_}
 use Rattle.definition.specs.Enums.{number}
-use Rattle.definition.specs.Node.{Node, size}
+use Rattle.definition.specs.Node.{size}
 use Rattle.definition.specs.Budget as B
 use Rattle.definition.specs.Machine as M
-use Rattle.definition.specs.Machine.{machine, restack}
+use Rattle.definition.specs.Machine.{machine}
 use Rattle.definition.specs.Perform.{Demangler}
 use Rattle.budget.specs.Spent.{budget-of, Spending}
 use Rattle.budget.specs.declared.Budget.{Budget}
 use Rattle.budget.specs.declared.Spent.{Spent}
 use Rattle.budget.specs.declared.Spent.the-variants as Spent
 use Rattle.definition.specs.declared.Refusal.{Refusal}
-use Rattle.records.specs.Lies.{Would, Lies}
-use Rattle.records.specs.Holds.{Names, Named, Spare, Inside, Holds, Grew, Pushed, Remembered, Keeps, for-record, for-push, for-keeping}
+use Rattle.records.specs.Lies.{Lies}
+use Rattle.records.specs.Holds.{Names, Named, Spare, Inside, Holds, Grew, Pushed, Remembered, Keeps, for-push, for-keeping}
 use Rattle.records.specs.declared.State.{State}
 use Rattle.nodes.specs.Gives.{Left, Kept, WrapsTo, Beyond}
 

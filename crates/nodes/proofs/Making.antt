@@ -1,20 +1,17 @@
 -- Nodes that are made of nothing: generic parameters and the types of the module Swift.
-use mathlib.Core.Path.{_≡_, refl, sym, ap, _∙_, subst}
+use mathlib.Core.Path.{_≡_, refl, sym, ap, _∙_}
 use mathlib.Core.List.{List, [], _∷_}
-use Prim.Native.Nat.{ℕ, suc, _+_, _-_, _*_, _^_, _≤_, _<_, _/_, _%_}
-use Prim.Native.String.{String}
+use Prim.Native.Nat.{ℕ, _+_, _-_, _*_, _^_, _≤_, _<_}
 use native.Mathlib.Omega.{arith}
-use lib.ListN.{length, getD}
 use Rattle.definition.specs.Base.{bytes}
 use Rattle.definition.specs.Enums as Enums
-use Rattle.definition.specs.Node.{NominalKind, Node, Module, Nominal, GenericParam, kind, size, count, view, nominal-kind}
+use Rattle.definition.specs.Node.{NominalKind, Module, Nominal, GenericParam, kind, size, count, view, nominal-kind}
 use Rattle.definition.specs.Perform as R
-use Rattle.definition.specs.Perform.{Demangler}
 use Rattle.definition.specs.declared.Param.{Param}
-use Rattle.records.specs.Lies.{at, Lies, Would}
-use Rattle.records.specs.Holds.{Fixed, Names, Named, spelled, fixed, Spare, Inside, Holds, Keeps, Grew, for-record}
+use Rattle.records.specs.Lies.{Lies}
+use Rattle.records.specs.Holds.{Fixed, Names, Named, fixed, Grew, for-record}
 use Rattle.records.specs.declared.State.{State}
-use Rattle.nodes.specs.Gives.{spare, low-half, high-half, Makes}
+use Rattle.nodes.specs.Gives.{low-half, high-half, Makes}
 use Rattle.nodes.proofs.Taking.{less-spare}
 use Rattle.nodes.proofs.Leaving.{keeps-then}
 

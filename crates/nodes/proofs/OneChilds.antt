@@ -1,30 +1,21 @@
 -- Operators that put one node over the top.
-use mathlib.Core.Path.{_≡_, refl, sym, ap, _∙_, subst}
-use mathlib.Core.Bool.{Bool, true, false}
-use mathlib.Core.List.{List, [], _∷_}
-use Prim.Native.Nat.{ℕ, suc, _+_, _-_, _*_, _^_, _≤_, _<_}
+use mathlib.Core.Path.{_≡_, subst}
+use mathlib.Core.List.{List}
+use Prim.Native.Nat.{ℕ, _+_, _-_, _*_, _^_, _≤_, _<_}
 use native.Mathlib.Omega.{arith}
-use lib.ListN.{length, getD}
-use Rattle.definition.specs.Base.{ok, refused, Done, and-then, _>>=_, _>>_}
-use Rattle.definition.specs.Kind as K
-use Rattle.definition.specs.Enums.{number}
-use Rattle.definition.specs.Node.{Node, Metatype, InOut, Static, VariableInitializer, kind, size, count, view}
+use lib.ListN.{length}
+use Rattle.definition.specs.Base.{refused}
+use Rattle.definition.specs.Node.{Node}
 use Rattle.definition.specs.Machine as M
-use Rattle.definition.specs.Machine.{restack, push}
-use Rattle.definition.specs.Perform as R
 use Rattle.definition.specs.Perform.{Demangler, Run}
-use Rattle.records.specs.Lies.{at, Child, Lies}
-use Rattle.records.specs.Holds.{Names, Named, weight, Spare, Inside, Holds, Ready, Keeps, for-record, for-push}
+use Rattle.records.specs.Lies.{at}
+use Rattle.records.specs.Holds.{Names, Spare, Inside, Holds, Ready}
 use Rattle.records.specs.declared.State.{State}
-use Rattle.definition.specs.declared.Refusal.the-variants as Refusal
 use Rattle.records.specs.declared.Popped.{Popped}
 use Rattle.records.specs.declared.Popped.the-variants as Popped
-use Rattle.nodes.specs.declared.Step.{Step}
-use Rattle.nodes.specs.declared.Step.the-variants as Step
 use Rattle.nodes.specs.declared.WrapSpent.{WrapSpent}
 use Rattle.nodes.specs.declared.WrapSpent.the-variants as WrapSpent
-use Rattle.nodes.specs.Gives.{nothing-spare, full-spare, taken, Given, Gives, Takes, Performed, Ran, Runs, Operates, Left, WrapsTo, Wraps, OneChild, over, Beyond}
-use Rattle.nodes.proofs.Taking.{less-spare}
+use Rattle.nodes.specs.Gives.{full-spare, Given, Gives, Takes, WrapsTo, Wraps, Beyond}
 
 -- a tree that was taken is below top, and small
 module _ {f : Run Node} {gain : ℕ} {w w₁ : List ℕ} {N : ℕ} {st u : State} {p : ℕ} (g : Gives f gain w w₁ N st p u) (r : Ready w N st full-spare) where
@@ -44,36 +35,6 @@ module _ {f : Run Node} {gain : ℕ} {w w₁ : List ℕ} {N : ℕ} {st u : State
   pub given-room : Inside w₁ N u 5 1 0
   given-room = let h = given .holds in record { small = h .small; long = h .long; charged = h .charged; room = omega (arith, h .room); deep = omega (arith, h .deep); kept = omega (arith, h .kept) }
 
-module _ (want : ℕ → Bool) {w w₁ w₂ : List ℕ} {N : ℕ} {st u v : State} {p : ℕ} where
-  pub one-child : (c : Node → Node) (k z a : ℕ) → OneChild k c → z ≡ at w₁ p 1 + 1 → a ≡ p → Gives (R.pop-if want) 3 w w₁ N st p u → Left w₁ w₂ N u v (k ∷ z ∷ 0 ∷ a ∷ 0 ∷ 0 ∷ 0 ∷ 0 ∷ []) →
-      Operates (over want c) w w₂ N st (Step.Done v)
-  unfolding push
-  one-child c k z a o ez ea g l = record {
-    runs = λ nm m i h.
-        let t : Given (R.pop-if want) 3 nm w₁ N p u full-spare m = g .gives nm full-spare m h in
-        let x : Node = t .tree in
-        let grown : size (c x) ≡ 1 + size x = o .size-is x in
-        record {
-          machine = restack (c x ∷ t .machine .stack) (t .machine);
-          is = ap (λ y. and-then y (λ x₁. push (c x₁))) (t .is);
-          holds = l .holds nm nothing-spare (t .machine) (c x)
-              (less-spare (taken 3 (size x) full-spare) (for-record (for-push (size (c x)) nothing-spare)) (omega arith) (omega arith) (omega (arith, grown)) (omega arith) (t .holds))
-              (record {
-                kind-is = sym (o .kind-is x);
-                size-is = ez ∙ omega (arith, t .lies .size-is, grown);
-                count-is = sym (o .count-is x);
-                body = o .body nm x _ w₁ (u .top) (record { place = p; is = ea; below = g .below; holds = t .lies });
-              });
-        };
-    past = λ i h. l .keeps .past i h ∙ g .keeps .past i h;
-    long = l .keeps .long ∙ g .keeps .long;
-  }
-
--- nothing was written
-pub over-refused : (want : ℕ → Bool) (c : Node → Node) {w : List ℕ} {N : ℕ} {st : State} → ((nm : Names) (sp : Spare) (m : Demangler) → Holds nm w N st sp m → R.pop-if want m ≡ refused 10) → Operates (over want c) w w N st (Step.Refused Refusal.Stack)
-unfolding number
-over-refused want c h = record { runs = λ nm m i k. ap (λ y. and-then y (λ x. push (c x))) (h nm full-spare m k); past = λ i l. refl; long = refl }
-
 -- an arm's answer of what takes a tree
 pub taken-place : (f : Run Node) (gain : ℕ) {w w′ : List ℕ} {N : ℕ} {st : State} {r : Popped} (p : ℕ) (u : State) → r ≡ Popped.Place p u → Takes f gain w w′ N st r → Gives f gain w w′ N st p u
 taken-place f gain {w} {w′} {N} {st} p u e h = subst (λ (x : Popped). Takes f gain w w′ N st x) e h
@@ -84,48 +45,9 @@ taken-nothing f gain {w} w′ {N} {st} e h = subst (λ (x : Popped). Takes f gai
 pub taken-not : (f : Run Node) (gain : ℕ) {w w′ : List ℕ} {N : ℕ} {st : State} {r : Popped} → r ≡ Popped.Nothing → Takes f gain w w′ N st r → ((nm : Names) (sp : Spare) (m : Demangler) → Holds nm w N st sp m → f m ≡ refused 10) × Beyond w w′ N
 taken-not f gain {w} {w′} {N} {st} e h = subst (λ (x : Popped). Takes f gain w w′ N st x) e h
 
--- WRAPPED: a wrap, and then what an operator does
-pub wrapped-then : (f : Performed) {w w′ : List ℕ} {N : ℕ} {st u : State} (r : Step) → WrapsTo w N st u → Operates f w w′ N u r → Operates (λ s. M.wrap >> f s) w w′ N st r
-wrapped-then f (Step.Done v) t o = record {
-  runs = λ nm m i h.
-      let g = t .gives nm full-spare m h in
-      let n = o .runs nm (g .0) i (g .2) in
-      record { machine = n .machine; is = ap (λ y. and-then y (λ _. f (nm .fixed))) (g .1) ∙ n .is; holds = n .holds };
-  past = o .past;
-  long = o .long;
-}
-wrapped-then f (Step.Refused e) t o = record {
-  runs = λ nm m i h.
-      let g = t .gives nm full-spare m h in
-      ap (λ y. and-then y (λ _. f (nm .fixed))) (g .1) ∙ o .runs nm (g .0) i (g .2);
-  past = o .past;
-  long = o .long;
-}
-
-pub wrapped-refused : (f : Performed) {w : List ℕ} {N : ℕ} {st : State} → ((nm : Names) (sp : Spare) (m : Demangler) → Holds nm w N st sp m → M.wrap m ≡ refused 8) → Operates (λ s. M.wrap >> f s) w w N st (Step.Refused Refusal.Nesting)
-unfolding number
-wrapped-refused f h = record { runs = λ nm m i k. ap (λ y. and-then y (λ _. f (nm .fixed))) (h nm full-spare m k); past = λ i l. refl; long = refl }
-
 -- an arm's answer of `wrap`
 pub wrapped-next : {st : State} {r : WrapSpent} (u : State) → r ≡ WrapSpent.Next u → ((w : List ℕ) (N : ℕ) → Wraps w N st r) → (w : List ℕ) (N : ℕ) → WrapsTo w N st u
 wrapped-next {st} u e h w N = subst (λ (x : WrapSpent). Wraps w N st x) e (h w N)
 
 pub wrapped-not : {st : State} {r : WrapSpent} → r ≡ WrapSpent.Refused → ((w : List ℕ) (N : ℕ) → Wraps w N st r) → (w : List ℕ) (N : ℕ) (nm : Names) (sp : Spare) (m : Demangler) → Holds nm w N st sp m → M.wrap m ≡ refused 8
 wrapped-not {st} e h w N = subst (λ (x : WrapSpent). Wraps w N st x) e (h w N)
-
--- THE NODES WITH ONE CHILD
-pub metatype-node : OneChild K.metatype Metatype
-unfolding kind size count view
-metatype-node = record { kind-is = λ x. refl; size-is = λ x. refl; count-is = λ x. refl; body = λ nm x f w p h. h }
-
-pub in-out-node : OneChild K.in-out InOut
-unfolding kind size count view
-in-out-node = record { kind-is = λ x. refl; size-is = λ x. refl; count-is = λ x. refl; body = λ nm x f w p h. h }
-
-pub static-node : OneChild K.static Static
-unfolding kind size count view
-static-node = record { kind-is = λ x. refl; size-is = λ x. refl; count-is = λ x. refl; body = λ nm x f w p h. h }
-
-pub variable-initializer-node : OneChild K.variable-initializer VariableInitializer
-unfolding kind size count view
-variable-initializer-node = record { kind-is = λ x. refl; size-is = λ x. refl; count-is = λ x. refl; body = λ nm x f w p h. h }

@@ -1,28 +1,25 @@
 -- Names of member types; the parameters of a function type.
-use mathlib.Core.Path.{_≡_, refl, sym, ap, _∙_, subst}
-use mathlib.Core.Bool.{Bool, true, false}
+use mathlib.Core.Path.{_≡_, refl, ap, _∙_, subst}
 use mathlib.Core.List.{List, [], _∷_}
-use mathlib.Core.Option.{Option, some, none}
-use Prim.Native.Nat.{ℕ, suc, _+_, _-_, _*_, _^_, _≤_, _<_}
+use mathlib.Core.Option.{none}
+use Prim.Native.Nat.{ℕ, _-_}
 use native.Mathlib.Omega.{arith}
-use lib.Dec.{T, eqb}
-use lib.ListN.{length, getD}
-use Rattle.definition.specs.Base.{Name, Out, ok, refused, if_then_else_, is-some, and-then, _>>=_, _>>_, ret, refuse}
+use lib.Dec.{eqb}
+use Rattle.definition.specs.Base.{Name, ok, is-some}
 use Rattle.definition.specs.Kind as K
-use Rattle.definition.specs.Node.{Node, Nodes, nil, cons, Tuple, kind, size, sizes, many, count, view}
+use Rattle.definition.specs.Node.{nil, Tuple, kind, size, sizes, many, count, view}
 use Rattle.definition.specs.Machine as M
 use Rattle.definition.specs.Perform as R
-use Rattle.definition.specs.Perform.{Demangler, Run}
-use Rattle.records.specs.Lies.{at, Lies}
-use Rattle.records.specs.Holds.{Names, Named, Spare, Inside, Holds, Ready, Keeps, Grew, for-record, for-push}
+use Rattle.definition.specs.Perform.{Demangler}
+use Rattle.records.specs.Holds.{Names, Spare, Holds, Keeps, Grew, for-record}
 use Rattle.records.specs.declared.State.{State}
 use Rattle.records.specs.declared.Popped.{Popped}
 use Rattle.records.specs.declared.Popped.the-variants as Popped
 use Rattle.nodes.specs.declared.NameTaken.{NameTaken}
 use Rattle.nodes.specs.declared.NameTaken.the-variants as NameTaken
-use Rattle.nodes.specs.Gives.{spare, nothing-spare, taken, Given, Gives, Takes, GivenIf, GivesIf, GivenName, GivesName, TakesName}
+use Rattle.nodes.specs.Gives.{taken, Given, Gives, Takes, GivenIf, GivesIf, GivenName, TakesName}
 use Rattle.nodes.proofs.ByKind.{positive}
-use Rattle.nodes.proofs.Taking.{keeps-itself, less-spare}
+use Rattle.nodes.proofs.Taking.{less-spare}
 
 -- NAMES OF MEMBER TYPES
 module _ {w : List ℕ} {N : ℕ} {st : State} where

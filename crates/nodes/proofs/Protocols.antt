@@ -1,21 +1,20 @@
 -- The protocol on top.
 use mathlib.Core.Path.{_≡_, refl, sym, ap, _∙_, subst}
-use mathlib.Core.Bool.{Bool, true, false, _&&_}
+use mathlib.Core.Bool.{false}
 use mathlib.Core.List.{List, [], _∷_}
-use Prim.Native.Nat.{ℕ, suc, _+_, _-_, _*_, _^_, _≤_, _<_}
+use Prim.Native.Nat.{ℕ, _+_, _-_, _≤_, _<_}
 use native.Mathlib.Omega.{arith}
 use lib.Dec.{T, eqb}
-use lib.ListN.{length, getD}
-use Rattle.definition.specs.Base.{Out, ok, refused, if_then_else_, and-then, _>>=_, ret, refuse}
+use Rattle.definition.specs.Base.{ok, refused, and-then, ret}
 use Rattle.definition.specs.Kind as K
 use Rattle.definition.specs.Node as Node·
 use Rattle.definition.specs.Node.{Node, Nodes, nil, cons, Identifier, Nominal, ProtocolList, kind, nominal-kind, size, sizes, many, count, view, name-of, member-of, first-of}
 use Rattle.definition.specs.Machine as M
 use Rattle.definition.specs.Machine.{restack}
 use Rattle.definition.specs.Perform as R
-use Rattle.definition.specs.Perform.{Demangler, Run}
-use Rattle.records.specs.Lies.{at, Lies, Lay, Child, Cells}
-use Rattle.records.specs.Holds.{Names, Named, Spare, Inside, Holds, Ready, TopIs, Took, Keeps, Grew, for-record, for-push}
+use Rattle.definition.specs.Perform.{Demangler}
+use Rattle.records.specs.Lies.{at, Lies}
+use Rattle.records.specs.Holds.{Names, Named, Spare, Holds, Ready, TopIs, Took, Keeps, Grew, for-record, for-push}
 use Rattle.records.specs.declared.State.{State}
 use Rattle.nodes.specs.Gives.{spare, nothing-spare, taken, Given, Gives}
 use Rattle.nodes.proofs.ByKind.{identifier-of, list-of}

@@ -1,7 +1,7 @@
 -- What there is to spare on the way through an operator: each call's contract carries a machine that lies there over to the state behind it.
-use mathlib.Core.Path.{_≡_, refl, sym, ap, _∙_, subst}
-use mathlib.Core.List.{List, []}
-use Prim.Native.Nat.{ℕ, suc, _+_, _-_, _*_, _^_, _≤_, _<_}
+use mathlib.Core.Path.{_≡_, refl}
+use mathlib.Core.List.{List}
+use Prim.Native.Nat.{ℕ, _+_, _-_, _*_, _^_, _≤_, _<_}
 use native.Mathlib.Omega.{arith}
 use lib.ListN.{length}
 use mathlib.Core.Bool.{Bool}
@@ -9,9 +9,9 @@ use mathlib.Core.Option.{Option}
 use Rattle.definition.specs.Base.{Name}
 use Rattle.definition.specs.Node.{Node, size}
 use Rattle.definition.specs.Machine.{restack}
-use Rattle.definition.specs.Perform.{Demangler, Run}
+use Rattle.definition.specs.Perform.{Run}
 use Rattle.records.specs.Lies.{at}
-use Rattle.records.specs.Holds.{Names, Spare, Inside, Holds, Ready, Took, Grew, Remembered, for-record, for-keeping}
+use Rattle.records.specs.Holds.{Spare, Inside, Ready, Took, Grew, for-record}
 use Rattle.records.specs.declared.State.{State}
 use Rattle.nodes.specs.Gives.{spare, nothing-spare, taken, Gives, GivesIf, GivesName, Marks, WrapsTo}
 use Rattle.nodes.specs.declared.Marked.{Marked}

@@ -4,7 +4,7 @@ use mathlib.Core.Bool.{Bool, true, false}
 use mathlib.Core.List.{List, [], _∷_}
 use mathlib.Core.Option.{Option, some, none}
 use lib.Dec.{T, eqb}
-use Prim.Native.Nat.{ℕ, suc, _+_, _-_, _*_, _^_, _≤_, _<_}
+use Prim.Native.Nat.{ℕ, _+_, _-_, _*_, _≤_, _<_}
 use native.Mathlib.Omega.{arith}
 use lib.ListN.{length}
 use Rattle.definition.specs.Base.{ok, refused, if_then_else_, is-some}
@@ -19,7 +19,7 @@ use Rattle.records.specs.Holds.{Names, Named, Spare, Inside, Holds, Ready, TopI
 use Rattle.records.specs.declared.Popped.{Popped}
 use Rattle.records.specs.declared.Popped.the-variants as Popped
 use Rattle.records.specs.declared.State.{State}
-use Rattle.nodes.specs.Gives.{nothing-spare, taken, Given, Gives, GivenIf, GivesIf, Tries, Marks, GivenName, GivesName, Beyond}
+use Rattle.nodes.specs.Gives.{nothing-spare, taken, Gives, GivesIf, Tries, Marks, GivesName, Beyond}
 use Rattle.nodes.proofs.ByKind.{identifier-of}
 
 -- the numbers of a machine that lies there

@@ -3,10 +3,10 @@ use mathlib.Core.Path.{_≡_}
 use mathlib.Core.Bool.{Bool}
 use mathlib.Core.List.{List, [], _∷_, _++_}
 use mathlib.Core.Option.{Option, some, none}
-use Prim.Native.Nat.{ℕ, _+_, _*_, _^_, _≤_, _<_, _/_, _%_}
+use Prim.Native.Nat.{ℕ, _+_, _*_, _≤_, _<_, _/_, _%_}
 use Prim.Native.String.{String}
 use lib.ListN.{length, getD}
-use Rattle.definition.specs.Base.{Name, ok, refused, Done, ret, and-then, _>>=_}
+use Rattle.definition.specs.Base.{Name, ok, refused, Done, ret, _>>=_}
 use Rattle.definition.specs.Node.{Node, FunctionType, kind, size, count}
 use Rattle.definition.specs.Perform.{Demangler, Run, pop-if, function-params}
 use Rattle.definition.specs.Machine.{machine, restack, push, wrap}

@@ -34,8 +34,8 @@ pub fn perform(ws: &mut [u32], n: usize, st: State, op: Operator) -> Step
         Operator::FunctionType => function_type(ws, n, st),
         Operator::ProtocolList => types::protocol_list(ws, n, st),
         Operator::BoundGeneric => types::bound_generic(ws, n, st),
-        Operator::InOut => nodes::in_out(ws, n, st),
-        Operator::Metatype => nodes::metatype(ws, n, st),
+        Operator::InOut => wrappers::in_out(ws, n, st),
+        Operator::Metatype => wrappers::metatype(ws, n, st),
         Operator::Archetype(p) => types::archetype(ws, n, st, p),
         Operator::Requirement(on, constraint) => {
             requirements::requirement(ws, n, st, on, constraint)
@@ -47,8 +47,8 @@ pub fn perform(ws: &mut [u32], n: usize, st: State, op: Operator) -> Step
         Operator::Deinitializer(deallocating) => {
             entities::deinitializer(ws, n, st, deallocating)
         }
-        Operator::VariableInitializer => nodes::variable_initializer(ws, n, st),
-        Operator::Static => nodes::static_member(ws, n, st),
+        Operator::VariableInitializer => wrappers::variable_initializer(ws, n, st),
+        Operator::Static => wrappers::static_member(ws, n, st),
         Operator::Record(about, name) => witnesses::record_of(ws, n, st, about, name),
         Operator::SuspendResume(i) => witnesses::suspend_resume(ws, n, st, i),
         Operator::LazyWitness(name) => witnesses::lazy_witness(ws, n, st, name),

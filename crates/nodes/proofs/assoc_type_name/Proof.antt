@@ -6,10 +6,6 @@ use Rattle.nodes.proofs.Params.{assoc-behind, assoc-alone}
 use borrow.Author.Needs.{needs}
 use Rattle.nodes.proofs.assoc_type_name.Statement.{statement}
 use Rattle.nodes.proofs.assoc_type_name.Tie as tie
-use Rattle.nodes.proofs.assoc_type_name.Reads as reads
-use Rattle.nodes.proofs.assoc_type_name.Lts as lts
-use Rattle.nodes.proofs.pop_if.Reads as pop-if-reads
-use Rattle.nodes.proofs.pop_name.Reads as pop-name-reads
 
 -- src/lib.rt:179:11
 pop-if-requires : tie.Need-pop-if-requires

@@ -9,13 +9,6 @@ use Rattle.nodes.proofs.Building.{between-built, between-first, between
 use borrow.Author.Needs.{needs}
 use Rattle.nodes.proofs.between.Statement.{statement}
 use Rattle.nodes.proofs.between.Tie as tie
-use Rattle.nodes.proofs.between.Reads as reads
-use Rattle.nodes.proofs.between.Lts as lts
-use Rattle.nodes.proofs.flag.Reads as flag-reads
-use Rattle.nodes.proofs.function_params.Reads as function-params-reads
-use Rattle.nodes.proofs.param_count.Reads as param-count-reads
-use Rattle.records.proofs.field.Reads as field-reads
-use Rattle.records.proofs.grow.Reads as grow-reads
 
 -- src/lib.rt:240:11
 function-params-requires : tie.Need-function-params-requires

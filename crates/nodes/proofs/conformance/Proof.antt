@@ -10,13 +10,6 @@ use Rattle.nodes.proofs.Building.{conformance-built, conformance-first,
 use borrow.Author.Needs.{needs}
 use Rattle.nodes.proofs.conformance.Statement.{statement}
 use Rattle.nodes.proofs.conformance.Tie as tie
-use Rattle.nodes.proofs.conformance.Reads as reads
-use Rattle.nodes.proofs.conformance.Lts as lts
-use Rattle.nodes.proofs.context.Reads as context-reads
-use Rattle.nodes.proofs.pop_if.Reads as pop-if-reads
-use Rattle.nodes.proofs.protocol.Reads as protocol-reads
-use Rattle.records.proofs.field.Reads as field-reads
-use Rattle.records.proofs.grow.Reads as grow-reads
 
 -- src/lib.rt:281:11
 context-requires : tie.Need-context-requires

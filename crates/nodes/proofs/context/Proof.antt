@@ -7,12 +7,6 @@ use Rattle.nodes.proofs.Contexts.{took-room, context-direct, context-re
 use borrow.Author.Needs.{needs}
 use Rattle.nodes.proofs.context.Statement.{statement}
 use Rattle.nodes.proofs.context.Tie as tie
-use Rattle.nodes.proofs.context.Reads as reads
-use Rattle.nodes.proofs.context.Lts as lts
-use Rattle.kinds.proofs.is_context.Reads as is-context-reads
-use Rattle.records.proofs.field.Reads as field-reads
-use Rattle.records.proofs.grow.Reads as grow-reads
-use Rattle.records.proofs.pop.Reads as pop-reads
 
 -- src/lib.rt:36:11
 pop-requires : tie.Need-pop-requires

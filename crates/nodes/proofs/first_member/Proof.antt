@@ -1,13 +1,7 @@
 use mathlib.Core.Path.{refl, _∙_}
-use Prim.Native.Nat.{ℕ}
-use Rattle.records.specs.Lies.{at}
 use borrow.Author.Needs.{needs}
 use Rattle.nodes.proofs.first_member.Statement.{statement}
 use Rattle.nodes.proofs.first_member.Tie as tie
-use Rattle.nodes.proofs.first_member.Reads as reads
-use Rattle.nodes.proofs.first_member.Lts as lts
-use Rattle.records.proofs.field.Reads as field-reads
-use Rattle.records.proofs.wide.Reads as wide-reads
 
 -- src/lib.rt:96:30
 field-requires : tie.Need-field-requires

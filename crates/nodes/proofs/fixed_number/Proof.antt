@@ -4,8 +4,6 @@ use Rattle.nodes.proofs.Making.{fixed-name, fixed-past}
 use borrow.Author.Needs.{needs}
 use Rattle.nodes.proofs.fixed_number.Statement.{statement}
 use Rattle.nodes.proofs.fixed_number.Tie as tie
-use Rattle.nodes.proofs.fixed_number.Reads as reads
-use Rattle.nodes.proofs.fixed_number.Lts as lts
 
 -- src/lib.rt:247:24
 cast-result : tie.Need-cast-result

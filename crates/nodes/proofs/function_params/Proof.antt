@@ -7,10 +7,6 @@ use Rattle.nodes.proofs.Params.{params-empty, params-type}
 use borrow.Author.Needs.{needs}
 use Rattle.nodes.proofs.function_params.Statement.{statement}
 use Rattle.nodes.proofs.function_params.Tie as tie
-use Rattle.nodes.proofs.function_params.Reads as reads
-use Rattle.nodes.proofs.function_params.Lts as lts
-use Rattle.nodes.proofs.pop_if.Reads as pop-if-reads
-use Rattle.records.proofs.grow.Reads as grow-reads
 
 -- src/lib.rt:190:11
 pop-if-requires : tie.Need-pop-if-requires

@@ -5,11 +5,6 @@ use Rattle.nodes.proofs.Building.{function-built, function-unwrapped}
 use borrow.Author.Needs.{needs}
 use Rattle.nodes.proofs.function_type.Statement.{statement}
 use Rattle.nodes.proofs.function_type.Tie as tie
-use Rattle.nodes.proofs.function_type.Reads as reads
-use Rattle.nodes.proofs.function_type.Lts as lts
-use Rattle.nodes.proofs.between.Reads as between-reads
-use Rattle.nodes.proofs.took.Reads as took-reads
-use Rattle.nodes.proofs.wrap.Reads as wrap-reads
 
 -- src/lib.rt:266:11
 wrap-requires : tie.Need-wrap-requires

@@ -2,11 +2,6 @@ use Rattle.nodes.proofs.Making.{generic-made}
 use borrow.Author.Needs.{needs}
 use Rattle.nodes.proofs.generic_param.Statement.{statement}
 use Rattle.nodes.proofs.generic_param.Tie as tie
-use Rattle.nodes.proofs.generic_param.Reads as reads
-use Rattle.nodes.proofs.generic_param.Lts as lts
-use Rattle.nodes.proofs.high.Reads as high-reads
-use Rattle.nodes.proofs.low.Reads as low-reads
-use Rattle.records.proofs.grow.Reads as grow-reads
 
 -- src/lib.rt:272:12
 low-requires : tie.Need-low-requires

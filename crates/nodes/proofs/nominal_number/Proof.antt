@@ -3,8 +3,6 @@ use Rattle.definition.specs.Enums as E
 use borrow.Author.Needs.{needs}
 use Rattle.nodes.proofs.nominal_number.Statement.{statement}
 use Rattle.nodes.proofs.nominal_number.Tie as tie
-use Rattle.nodes.proofs.nominal_number.Reads as reads
-use Rattle.nodes.proofs.nominal_number.Lts as lts
 
 -- src/lib.rt:22:31
 enum-told : tie.Need-enum-told

@@ -2,13 +2,9 @@ use mathlib.Core.Path.{refl, sym, ap, _∙_}
 use Prim.Native.Nat.{ℕ}
 use lib.Dec.{eqb}
 use borrow.Author.Tests.{eq-eqb, ne-eqb}
-use Rattle.definition.specs.Base.{if_then_else_}
 use borrow.Author.Needs.{needs}
 use Rattle.nodes.proofs.param_count.Statement.{statement}
 use Rattle.nodes.proofs.param_count.Tie as tie
-use Rattle.nodes.proofs.param_count.Reads as reads
-use Rattle.nodes.proofs.param_count.Lts as lts
-use Rattle.records.proofs.field.Reads as field-reads
 
 -- src/lib.rt:229:8
 field-requires : tie.Need-field-requires

@@ -5,11 +5,6 @@ use Rattle.nodes.proofs.Taking.{place-inside, beyond-itself, took-below
 use borrow.Author.Needs.{needs}
 use Rattle.nodes.proofs.pop_if.Statement.{statement}
 use Rattle.nodes.proofs.pop_if.Tie as tie
-use Rattle.nodes.proofs.pop_if.Reads as reads
-use Rattle.nodes.proofs.pop_if.Lts as lts
-use Rattle.kinds.proofs.wanted.Reads as wanted-reads
-use Rattle.records.proofs.field.Reads as field-reads
-use Rattle.records.proofs.pop.Reads as pop-reads
 
 -- src/lib.rt:19:11
 pop-requires : tie.Need-pop-requires

@@ -6,10 +6,6 @@ use Rattle.nodes.proofs.Taking.{place-inside, took-below, popped, poppe
 use borrow.Author.Needs.{needs}
 use Rattle.nodes.proofs.pop_name.Statement.{statement}
 use Rattle.nodes.proofs.pop_name.Tie as tie
-use Rattle.nodes.proofs.pop_name.Reads as reads
-use Rattle.nodes.proofs.pop_name.Lts as lts
-use Rattle.records.proofs.field.Reads as field-reads
-use Rattle.records.proofs.pop.Reads as pop-reads
 
 -- src/lib.rt:110:11
 pop-requires : tie.Need-pop-requires

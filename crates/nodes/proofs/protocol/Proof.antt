@@ -2,7 +2,7 @@ use mathlib.Core.Path.{refl, sym, ap, _∙_}
 use Prim.Native.Nat.{ℕ, _+_}
 use native.Mathlib.Omega.{arith}
 use lib.Dec.{eqb}
-use borrow.Author.Tests.{eq-eqb, ne-eqb}
+use borrow.Author.Tests.{ne-eqb}
 use Rattle.definition.specs.Perform as R
 use Rattle.nodes.proofs.Taking.{place-inside, beyond-itself, took-below, popped, popped-nothing}
 use Rattle.nodes.proofs.OneChilds.{taken-place, taken-nothing, taken-not}
@@ -11,13 +11,6 @@ use Rattle.nodes.proofs.Protocols.{protocol-direct, protocol-member, pr
 use borrow.Author.Needs.{needs}
 use Rattle.nodes.proofs.protocol.Statement.{statement}
 use Rattle.nodes.proofs.protocol.Tie as tie
-use Rattle.nodes.proofs.protocol.Reads as reads
-use Rattle.nodes.proofs.protocol.Lts as lts
-use Rattle.nodes.proofs.context.Reads as context-reads
-use Rattle.nodes.proofs.first_member.Reads as first-member-reads
-use Rattle.records.proofs.field.Reads as field-reads
-use Rattle.records.proofs.grow.Reads as grow-reads
-use Rattle.records.proofs.pop.Reads as pop-reads
 
 -- src/lib.rt:105:11
 pop-requires : tie.Need-pop-requires

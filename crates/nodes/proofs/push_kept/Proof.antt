@@ -3,11 +3,6 @@ use Rattle.nodes.proofs.Leaving.{grew-kept, kept-room, kept}
 use borrow.Author.Needs.{needs}
 use Rattle.nodes.proofs.push_kept.Statement.{statement}
 use Rattle.nodes.proofs.push_kept.Tie as tie
-use Rattle.nodes.proofs.push_kept.Reads as reads
-use Rattle.nodes.proofs.push_kept.Lts as lts
-use Rattle.records.proofs.grow.Reads as grow-reads
-use Rattle.records.proofs.push.Reads as push-reads
-use Rattle.records.proofs.remember.Reads as remember-reads
 
 -- src/lib.rt:155:9
 grow-requires : tie.Need-grow-requires

@@ -3,10 +3,6 @@ use Rattle.nodes.proofs.Leaving.{grew-room, left}
 use borrow.Author.Needs.{needs}
 use Rattle.nodes.proofs.push_new.Statement.{statement}
 use Rattle.nodes.proofs.push_new.Tie as tie
-use Rattle.nodes.proofs.push_new.Reads as reads
-use Rattle.nodes.proofs.push_new.Lts as lts
-use Rattle.records.proofs.grow.Reads as grow-reads
-use Rattle.records.proofs.push.Reads as push-reads
 
 -- src/lib.rt:144:9
 grow-requires : tie.Need-grow-requires

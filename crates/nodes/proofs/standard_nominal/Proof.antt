@@ -4,11 +4,6 @@ use Rattle.nodes.proofs.Making.{standard-made}
 use borrow.Author.Needs.{needs}
 use Rattle.nodes.proofs.standard_nominal.Statement.{statement}
 use Rattle.nodes.proofs.standard_nominal.Tie as tie
-use Rattle.nodes.proofs.standard_nominal.Reads as reads
-use Rattle.nodes.proofs.standard_nominal.Lts as lts
-use Rattle.nodes.proofs.fixed_number.Reads as fixed-number-reads
-use Rattle.nodes.proofs.nominal_number.Reads as nominal-number-reads
-use Rattle.records.proofs.grow.Reads as grow-reads
 
 -- src/lib.rt:297:9
 grow-requires : tie.Need-grow-requires

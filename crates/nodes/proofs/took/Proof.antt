@@ -4,9 +4,6 @@ use Rattle.nodes.proofs.Taking.{tried, tried-nothing, marked, unmarked}
 use borrow.Author.Needs.{needs}
 use Rattle.nodes.proofs.took.Statement.{statement}
 use Rattle.nodes.proofs.took.Tie as tie
-use Rattle.nodes.proofs.took.Reads as reads
-use Rattle.nodes.proofs.took.Lts as lts
-use Rattle.nodes.proofs.pop_if.Reads as pop-if-reads
 
 -- src/lib.rt:93:11
 pop-if-requires : tie.Need-pop-if-requires

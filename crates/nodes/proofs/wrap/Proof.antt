@@ -2,9 +2,6 @@ use Rattle.nodes.proofs.Leaving.{wraps-to, wraps-refused, spent-left, s
 use borrow.Author.Needs.{needs}
 use Rattle.nodes.proofs.wrap.Statement.{statement}
 use Rattle.nodes.proofs.wrap.Tie as tie
-use Rattle.nodes.proofs.wrap.Reads as reads
-use Rattle.nodes.proofs.wrap.Lts as lts
-use Rattle.budget.proofs.Budget.wrap.Reads as wrap-reads
 
 -- src/lib.rt:153:11
 wrap-requires : tie.Need-wrap-requires

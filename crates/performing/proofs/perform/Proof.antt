@@ -16,10 +16,10 @@ use Rattle.entities.proofs.plain_function.Reads as plain-function-reads
 use Rattle.requirements.proofs.requirement.Reads as requirement-reads
 use Rattle.entities.proofs.value_witness.Reads as value-witness-reads
 use Rattle.entities.proofs.variable.Reads as variable-reads
-use Rattle.nodes.proofs.in_out.Reads as in-out-reads
-use Rattle.nodes.proofs.metatype.Reads as metatype-reads
-use Rattle.nodes.proofs.static_member.Reads as static-member-reads
-use Rattle.nodes.proofs.variable_initializer.Reads as variable-initializer-reads
+use Rattle.wrappers.proofs.in_out.Reads as in-out-reads
+use Rattle.wrappers.proofs.metatype.Reads as metatype-reads
+use Rattle.wrappers.proofs.static_member.Reads as static-member-reads
+use Rattle.wrappers.proofs.variable_initializer.Reads as variable-initializer-reads
 use Rattle.performing.proofs.function_type.Reads as function-type-reads
 use Rattle.types.proofs.archetype.Reads as archetype-reads
 use Rattle.types.proofs.bound_generic.Reads as bound-generic-reads

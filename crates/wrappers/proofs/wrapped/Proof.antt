@@ -1,15 +1,12 @@
 use Rattle.definition.specs.Perform as R
 use Rattle.definition.specs.Kind as K
 use Rattle.nodes.specs.Gives.{over}
-use Rattle.nodes.proofs.OneChilds.{wrapped-then, wrapped-refused, wrapped-next, wrapped-not}
+use Rattle.wrappers.proofs.Over.{wrapped-then, wrapped-refused}
+use Rattle.nodes.proofs.OneChilds.{wrapped-next, wrapped-not}
 use Rattle.nodes.proofs.Ready.{after-wrap}
 use borrow.Author.Needs.{needs}
-use Rattle.nodes.proofs.wrapped.Statement.{statement}
-use Rattle.nodes.proofs.wrapped.Tie as tie
-use Rattle.nodes.proofs.wrapped.Reads as reads
-use Rattle.nodes.proofs.wrapped.Lts as lts
-use Rattle.nodes.proofs.one_child.Reads as one-child-reads
-use Rattle.nodes.proofs.wrap.Reads as wrap-reads
+use Rattle.wrappers.proofs.wrapped.Statement.{statement}
+use Rattle.wrappers.proofs.wrapped.Tie as tie
 
 -- src/lib.rt:192:11
 wrap-requires : tie.Need-wrap-requires

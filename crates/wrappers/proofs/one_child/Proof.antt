@@ -3,16 +3,12 @@ use Prim.Native.Nat.{ℕ, _+_}
 use native.Mathlib.Omega.{arith}
 use Rattle.definition.specs.Perform as R
 use Rattle.kinds.specs.Wanted.{want-of}
-use Rattle.nodes.proofs.OneChilds.{given-inside, given-place, given-size, given-room, one-child, over-refused, taken-place, taken-nothing}
+use Rattle.nodes.proofs.OneChilds.{given-inside, given-place, given-size, given-room, taken-place, taken-nothing}
+use Rattle.wrappers.proofs.Over.{one-child, over-refused}
 use Rattle.nodes.proofs.Ready.{ready-none}
 use borrow.Author.Needs.{needs}
-use Rattle.nodes.proofs.one_child.Statement.{statement}
-use Rattle.nodes.proofs.one_child.Tie as tie
-use Rattle.nodes.proofs.one_child.Reads as reads
-use Rattle.nodes.proofs.one_child.Lts as lts
-use Rattle.nodes.proofs.pop_if.Reads as pop-if-reads
-use Rattle.nodes.proofs.push_new.Reads as push-new-reads
-use Rattle.records.proofs.field.Reads as field-reads
+use Rattle.wrappers.proofs.one_child.Statement.{statement}
+use Rattle.wrappers.proofs.one_child.Tie as tie
 
 -- src/lib.rt:169:11
 pop-if-requires : tie.Need-pop-if-requires

@@ -1,10 +1,7 @@
-use Rattle.nodes.proofs.OneChilds.{in-out-node}
+use Rattle.wrappers.proofs.Over.{in-out-node}
 use borrow.Author.Needs.{needs}
-use Rattle.nodes.proofs.in_out.Statement.{statement}
-use Rattle.nodes.proofs.in_out.Tie as tie
-use Rattle.nodes.proofs.in_out.Reads as reads
-use Rattle.nodes.proofs.in_out.Lts as lts
-use Rattle.nodes.proofs.wrapped.Reads as wrapped-reads
+use Rattle.wrappers.proofs.in_out.Statement.{statement}
+use Rattle.wrappers.proofs.in_out.Tie as tie
 
 -- src/lib.rt:203:5
 wrapped-requires : tie.Need-wrapped-requires

@@ -1,10 +1,7 @@
-use Rattle.nodes.proofs.OneChilds.{variable-initializer-node}
+use Rattle.wrappers.proofs.Over.{variable-initializer-node}
 use borrow.Author.Needs.{needs}
-use Rattle.nodes.proofs.variable_initializer.Statement.{statement}
-use Rattle.nodes.proofs.variable_initializer.Tie as tie
-use Rattle.nodes.proofs.variable_initializer.Reads as reads
-use Rattle.nodes.proofs.variable_initializer.Lts as lts
-use Rattle.nodes.proofs.one_child.Reads as one-child-reads
+use Rattle.wrappers.proofs.variable_initializer.Statement.{statement}
+use Rattle.wrappers.proofs.variable_initializer.Tie as tie
 
 -- src/lib.rt:227:5
 one-child-requires : tie.Need-one-child-requires

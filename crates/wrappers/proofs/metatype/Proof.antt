@@ -1,10 +1,7 @@
-use Rattle.nodes.proofs.OneChilds.{metatype-node}
+use Rattle.wrappers.proofs.Over.{metatype-node}
 use borrow.Author.Needs.{needs}
-use Rattle.nodes.proofs.metatype.Statement.{statement}
-use Rattle.nodes.proofs.metatype.Tie as tie
-use Rattle.nodes.proofs.metatype.Reads as reads
-use Rattle.nodes.proofs.metatype.Lts as lts
-use Rattle.nodes.proofs.wrapped.Reads as wrapped-reads
+use Rattle.wrappers.proofs.metatype.Statement.{statement}
+use Rattle.wrappers.proofs.metatype.Tie as tie
 
 -- src/lib.rt:211:5
 wrapped-requires : tie.Need-wrapped-requires

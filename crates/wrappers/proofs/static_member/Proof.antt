@@ -1,10 +1,7 @@
-use Rattle.nodes.proofs.OneChilds.{static-node}
+use Rattle.wrappers.proofs.Over.{static-node}
 use borrow.Author.Needs.{needs}
-use Rattle.nodes.proofs.static_member.Statement.{statement}
-use Rattle.nodes.proofs.static_member.Tie as tie
-use Rattle.nodes.proofs.static_member.Reads as reads
-use Rattle.nodes.proofs.static_member.Lts as lts
-use Rattle.nodes.proofs.one_child.Reads as one-child-reads
+use Rattle.wrappers.proofs.static_member.Statement.{statement}
+use Rattle.wrappers.proofs.static_member.Tie as tie
 
 -- src/lib.rt:219:5
 one-child-requires : tie.Need-one-child-requires
