@@ -11,12 +11,13 @@ use Rattle.records.specs.declared.State.{State}
 use Rattle.nodes.specs.Gives.{nothing-spare, Beyond}
 use Rattle.nodes.proofs.Leaving.{keeps-then}
 use Rattle.nodes.proofs.Taking.{less-spare, keeps-itself}
-use Rattle.types.specs.Lists.{grown, Listed, Gathering, Loop, Went, Turns, Rounds, Collected}
-use Rattle.types.specs.declared.Chain.{Chain}
+use Rattle.cells.specs.Cells.{grown, Listed, Gathering}
+use Rattle.types.specs.Lists.{Loop, Went, Turns, Rounds, Collected}
+use Rattle.cells.specs.declared.Chain.{Chain}
 use Rattle.types.specs.declared.Round.{Round}
 use Rattle.types.specs.declared.Round.the-variants as Round
-use Rattle.types.proofs.Cells.{listed-nil}
-use Rattle.types.proofs.Gatherings.{gathering-none}
+use Rattle.cells.proofs.Cells.{listed-nil}
+use Rattle.cells.proofs.Gatherings.{gathering-none}
 
 -- the loop with f rounds from the machine m on is at this list, with as many rounds as it may still need
 pub record Gone (loop : Loop) (nm : Names) (w : List ℕ) (N : ℕ) (st : State) (l : Chain) (sp : Spare) (f : ℕ) (m : Demangler) : Type 0 where

@@ -22,11 +22,12 @@ use Rattle.nodes.specs.declared.Step.the-variants as Step
 use Rattle.nodes.specs.Gives.{nothing-spare, full-spare, taken, low-half, high-half, Gives, Marks, Operates, Left, Kept, Beyond}
 use Rattle.nodes.proofs.Making.{halves}
 use Rattle.nodes.proofs.Taking.{less-spare, keeps-itself}
-use Rattle.types.specs.Lists.{grown, Listed, Gathering, Loop, Collected, Collects, ListNode, delimited, applied}
-use Rattle.types.specs.declared.Chain.{Chain}
+use Rattle.cells.specs.Cells.{grown, Listed, Gathering}
+use Rattle.types.specs.Lists.{Loop, Collected, Collects, ListNode, delimited, applied}
+use Rattle.cells.specs.declared.Chain.{Chain}
 use Rattle.types.specs.declared.Listing.{Listing}
 use Rattle.types.specs.declared.Listing.the-variants as Listing
-use Rattle.types.proofs.Cells.{cells-move, listed-moves, listed-nil}
+use Rattle.cells.proofs.Cells.{cells-move, listed-moves, listed-nil}
 
 -- as many places lie on the stack as there are trees on it
 pub stack-depth : {nm : Names} {w : List ℕ} {N : ℕ} {st : State} {sp : Spare} {m : Demangler} → Holds nm w N st sp m → length (m .stack) ≡ st .depth

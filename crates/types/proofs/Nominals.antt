@@ -3,7 +3,7 @@ use mathlib.Core.Path.{_≡_, refl, _∙_, subst}
 use mathlib.Core.List.{List, [], _∷_, _++_}
 use Prim.Native.Nat.{ℕ, _+_}
 use native.Mathlib.Omega.{arith}
-use Rattle.definition.specs.Base.{Name, refused, and-then}
+use Rattle.definition.specs.Base.{Name, refused}
 use Rattle.definition.specs.Enums as E
 use Rattle.definition.specs.Node.{NominalKind, Node, Nominal, kind, size, count, view, nominal-kind}
 use Rattle.definition.specs.Machine as M

@@ -1,7 +1,7 @@
 -- One round of each list.
 use mathlib.Core.Path.{_≡_, refl, subst}
 use mathlib.Core.Bool.{Bool, true, false}
-use mathlib.Core.List.{List, []}
+use mathlib.Core.List.{List}
 use mathlib.Core.Option.{Option, some, none}
 use Prim.Native.Nat.{ℕ, suc, _≤_, _<_}
 use native.Mathlib.Omega.{arith}
@@ -18,11 +18,12 @@ use Rattle.nodes.specs.Gives.{taken, Gives, GivesIf, Marks, Beyond}
 use Rattle.nodes.specs.declared.Marked.{Marked}
 use Rattle.nodes.proofs.Leaving.{keeps-then}
 use Rattle.nodes.proofs.Taking.{less-spare, keeps-itself, beyond-itself}
-use Rattle.types.specs.Lists.{grown, Listed, Adds, Labels, Loop, Went, Turns}
-use Rattle.types.specs.declared.Chain.{Chain}
-use Rattle.types.specs.declared.Added.{Added}
-use Rattle.types.specs.declared.LabelTaken.{LabelTaken}
-use Rattle.types.proofs.Cells.{listed-moves}
+use Rattle.cells.specs.Cells.{grown, Listed, Adds, Labels}
+use Rattle.types.specs.Lists.{Loop, Went, Turns}
+use Rattle.cells.specs.declared.Chain.{Chain}
+use Rattle.cells.specs.declared.Added.{Added}
+use Rattle.cells.specs.declared.LabelTaken.{LabelTaken}
+use Rattle.cells.proofs.Cells.{listed-moves}
 
 -- what follows a round: nothing, or the loop again
 abbrev pub next-of : Bool → Loop → Loop

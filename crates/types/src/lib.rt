@@ -1,12 +1,16 @@
 // What the operators that make types do to the records: the functions of the Rust under their names.
 ghost use Prim.Native.Nat.{_+_};
-ghost use mathlib.Core.List.{[], _∷_};
 ghost use Rattle.definition.specs.Enums as E;
 ghost use Rattle.definition.specs.Node.{Node, Nodes};
 ghost use Rattle.definition.specs.Perform as R;
 ghost use Rattle.records.specs.Holds.{Ready};
-ghost use Rattle.nodes.specs.Gives.{nothing-spare, full-spare, Operates, Left};
-ghost use Rattle.types.specs.Lists.{Gathering, CellFits, Adds, Labels, Rounds, Collects, loop-of, ListNode, delimited, applied};
+ghost use Rattle.nodes.specs.Gives.{nothing-spare, full-spare, Operates};
+ghost use Rattle.cells.specs.Cells.{Gathering};
+ghost use Rattle.types.specs.Lists.{Rounds, Collects, loop-of, ListNode, delimited, applied};
+use cells::Chain;
+use cells::cell;
+use cells::label;
+use cells::push_list;
 use definition::NominalKind;
 use definition::Param;
 use definition::Refusal;
@@ -17,25 +21,6 @@ use nodes::WrapSpent;
 use records::Fields;
 use records::Popped;
 use records::State;
-
-// A list that was taken from the stack: how many nodes, their sizes together, and the place of the first cell.
-pub struct Chain {
-    pub count: u32,
-    pub sum: u32,
-    pub first: u32,
-}
-
-// A list with one cell more, and the state with its record.
-pub struct Added {
-    pub list: Chain,
-    pub next: State,
-}
-
-// The number of a label that was on top, or 4,294,967,295 for none, and the state without it.
-pub struct LabelTaken {
-    pub label: u32,
-    pub next: State,
-}
 
 // What one round of a list comes to.
 pub enum Round {
@@ -80,48 +65,6 @@ pub fn nominal(ws: &mut [u32], n: usize, st: State, kind: NominalKind) -> Step
             Popped::Nothing => Step::Refused(Refusal::Stack),
         },
         NameTaken::Nothing => Step::Refused(Refusal::Stack),
-    }
-}
-
-// The tree at place p in front of a list, with a label.
-fn cell(ws: &mut [u32], n: usize, st: State, l: Chain, label: u32, p: usize) -> Added
-    requires { ⌜ CellFits (now ws) n st l p ⌝ }
-    ensures { λ r. ⌜ Adds (now (ws .entry)) (now (ws .exit)) n st l label p r ⌝ }
-{
-    let size = records::field(ws, p, 1);
-    let child = p as u32;
-    let behind = l.first;
-    let place = st.top as u32;
-    let rest = Fields {
-        a: label,
-        b: child,
-        c: behind,
-        d: 0,
-        e: 0,
-    };
-    let list = Chain {
-        count: l.count + 1,
-        sum: l.sum + size,
-        first: place,
-    };
-    let next = records::grow(ws, n, st, 0, 0, 0, rest);
-    Added { list, next }
-}
-
-// The label on top, if there is one.
-fn label(ws: &[u32], n: usize, st: State) -> LabelTaken
-    requires { ⌜ Ready (now ws) n st nothing-spare ⌝ }
-    ensures { λ r. ⌜ Labels (now (ws .entry)) n st r ⌝ }
-{
-    match nodes::pop_if(ws, n, st, Want::Identifier) {
-        Popped::Place(p, u) => LabelTaken {
-            label: records::field(ws, p, 3),
-            next: u,
-        },
-        Popped::Nothing => LabelTaken {
-            label: 4294967295,
-            next: st,
-        },
     }
 }
 
@@ -251,21 +194,6 @@ fn collect(ws: &mut [u32], n: usize, st: State, of: Lists) -> Listing
             }
         }
     }
-}
-
-// A node over a list, on top of the stack.
-fn push_list(ws: &mut [u32], n: usize, st: State, l: Chain, kind: u32) -> State
-    requires { ⌜ Gathering (now ws) n st full-spare l ⌝ }
-    ensures { λ r. ⌜ Left (now (ws .entry)) (now (ws .exit)) n st r (kind ∷ (l .sum + 1) ∷ l .count ∷ l .first ∷ 0 ∷ 0 ∷ 0 ∷ 0 ∷ []) ⌝ }
-{
-    let rest = Fields {
-        a: l.first,
-        b: 0,
-        c: 0,
-        d: 0,
-        e: 0,
-    };
-    nodes::push_new(ws, n, st, kind, l.sum + 1, l.count, rest)
 }
 
 // A node of a kind over a list; the empty list stands for no nodes.

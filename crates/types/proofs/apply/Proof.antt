@@ -5,17 +5,11 @@ use Rattle.definition.specs.Perform as R
 use Rattle.definition.specs.Kind as K
 use Rattle.nodes.proofs.OneChilds.{taken-place, taken-nothing}
 use Rattle.nodes.proofs.Ready.{ready-none, room, inside-record, small-place}
-use Rattle.types.proofs.Gatherings.{gathering-ready, gathering-taken, taken-sum}
+use Rattle.cells.proofs.Gatherings.{gathering-ready, gathering-taken, taken-sum}
 use Rattle.types.proofs.ListNodes.{gathered, collected, not-collected, applied-done, applied-baseless, applied-refused}
 use borrow.Author.Needs.{needs}
 use Rattle.types.proofs.apply.Statement.{statement}
 use Rattle.types.proofs.apply.Tie as tie
-use Rattle.types.proofs.apply.Reads as reads
-use Rattle.types.proofs.apply.Lts as lts
-use Rattle.nodes.proofs.pop_if.Reads as pop-if-reads
-use Rattle.nodes.proofs.push_kept.Reads as push-kept-reads
-use Rattle.records.proofs.field.Reads as field-reads
-use Rattle.types.proofs.collect.Reads as collect-reads
 
 -- src/lib.rt:318:11
 collect-requires : tie.Need-collect-requires

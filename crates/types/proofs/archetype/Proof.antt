@@ -8,11 +8,6 @@ use Rattle.types.proofs.Archetypes.{after-made, archetype-done, archety
 use borrow.Author.Needs.{needs}
 use Rattle.types.proofs.archetype.Statement.{statement}
 use Rattle.types.proofs.archetype.Tie as tie
-use Rattle.types.proofs.archetype.Reads as reads
-use Rattle.types.proofs.archetype.Lts as lts
-use Rattle.nodes.proofs.assoc_type_name.Reads as assoc-type-name-reads
-use Rattle.nodes.proofs.generic_param.Reads as generic-param-reads
-use Rattle.nodes.proofs.push_kept.Reads as push-kept-reads
 
 -- src/lib.rt:373:11
 assoc-type-name-requires : tie.Need-assoc-type-name-requires

@@ -5,16 +5,11 @@ use Rattle.definition.specs.Kind as K
 use Rattle.nodes.proofs.Taking.{tried, tried-nothing}
 use Rattle.nodes.proofs.OneChilds.{taken-place, taken-nothing}
 use Rattle.nodes.proofs.Ready.{ready-none}
-use Rattle.types.proofs.Gatherings.{gathering-ready, gathering-marked, cell-fits}
+use Rattle.cells.proofs.Gatherings.{gathering-ready, gathering-marked, cell-fits}
 use Rattle.types.proofs.Rounding.{argument-turns, arguments-end, arguments-pass, argument-refused}
 use borrow.Author.Needs.{needs}
 use Rattle.types.proofs.argument.Statement.{statement}
 use Rattle.types.proofs.argument.Tie as tie
-use Rattle.types.proofs.argument.Reads as reads
-use Rattle.types.proofs.argument.Lts as lts
-use Rattle.nodes.proofs.pop_if.Reads as pop-if-reads
-use Rattle.nodes.proofs.took.Reads as took-reads
-use Rattle.types.proofs.cell.Reads as cell-reads
 
 -- src/lib.rt:167:11
 pop-if-requires : tie.Need-pop-if-requires

@@ -6,10 +6,6 @@ use Rattle.types.specs.Lists.{applied}
 use borrow.Author.Needs.{needs}
 use Rattle.types.proofs.bound_generic.Statement.{statement}
 use Rattle.types.proofs.bound_generic.Tie as tie
-use Rattle.types.proofs.bound_generic.Reads as reads
-use Rattle.types.proofs.bound_generic.Lts as lts
-use Rattle.nodes.proofs.wrap.Reads as wrap-reads
-use Rattle.types.proofs.apply.Reads as apply-reads
 
 -- src/lib.rt:342:11
 wrap-requires : tie.Need-wrap-requires

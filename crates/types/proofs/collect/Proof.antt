@@ -3,9 +3,6 @@ use Rattle.types.specs.Lists.{loop-of}
 use Rattle.types.proofs.Collecting.{Going, going-start, going-more, going-last, going-refused, round-more, round-last, round-refused}
 use Rattle.types.proofs.collect.Statement.{statement}
 use Rattle.types.proofs.collect.Tie as tie
-use Rattle.types.proofs.collect.Reads as reads
-use Rattle.types.proofs.collect.Lts as lts
-use Rattle.types.proofs.one_round.Reads as one-round-reads
 
 abbrev Inv-loop : tie.InvT-loop
 Inv-loop ws₀ n of next₀ list₀ ws next list = Going (loop-of of) ws₀ ws n next₀ next list

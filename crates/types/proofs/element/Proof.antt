@@ -4,17 +4,11 @@ use Rattle.definition.specs.Perform as R
 use Rattle.definition.specs.Kind as K
 use Rattle.nodes.proofs.OneChilds.{taken-place, taken-nothing}
 use Rattle.nodes.proofs.Ready.{ready-none}
-use Rattle.types.proofs.Gatherings.{gathering-ready, gathering-marked, gathering-labelled, cell-fits}
+use Rattle.cells.proofs.Gatherings.{gathering-ready, gathering-marked, gathering-labelled, cell-fits}
 use Rattle.types.proofs.Rounding.{element-turns, element-refused}
 use borrow.Author.Needs.{needs}
 use Rattle.types.proofs.element.Statement.{statement}
 use Rattle.types.proofs.element.Tie as tie
-use Rattle.types.proofs.element.Reads as reads
-use Rattle.types.proofs.element.Lts as lts
-use Rattle.nodes.proofs.pop_if.Reads as pop-if-reads
-use Rattle.nodes.proofs.took.Reads as took-reads
-use Rattle.types.proofs.cell.Reads as cell-reads
-use Rattle.types.proofs.label.Reads as label-reads
 
 -- src/lib.rt:142:9
 took-requires : tie.Need-took-requires

@@ -1,17 +1,11 @@
 use native.Mathlib.Omega.{arith}
 use Rattle.definition.specs.Perform as R
 use Rattle.nodes.proofs.Ready.{ready-none, room}
-use Rattle.types.proofs.Gatherings.{gathering-ready, gathering-sum}
+use Rattle.cells.proofs.Gatherings.{gathering-ready, gathering-sum}
 use Rattle.types.proofs.ListNodes.{gathered, collected, not-collected, signature-done, signature-refused}
 use borrow.Author.Needs.{needs}
 use Rattle.types.proofs.generic_signature.Statement.{statement}
 use Rattle.types.proofs.generic_signature.Tie as tie
-use Rattle.types.proofs.generic_signature.Reads as reads
-use Rattle.types.proofs.generic_signature.Lts as lts
-use Rattle.nodes.proofs.high.Reads as high-reads
-use Rattle.nodes.proofs.low.Reads as low-reads
-use Rattle.nodes.proofs.push_new.Reads as push-new-reads
-use Rattle.types.proofs.collect.Reads as collect-reads
 
 -- src/lib.rt:353:11
 collect-requires : tie.Need-collect-requires

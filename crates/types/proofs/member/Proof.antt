@@ -3,16 +3,11 @@ use mathlib.Core.Bool.{true, false}
 use Rattle.definition.specs.Perform as R
 use Rattle.nodes.proofs.OneChilds.{taken-place, taken-not}
 use Rattle.nodes.proofs.Ready.{ready-none}
-use Rattle.types.proofs.Gatherings.{gathering-ready, gathering-marked, cell-fits}
+use Rattle.cells.proofs.Gatherings.{gathering-ready, gathering-marked, cell-fits}
 use Rattle.types.proofs.Rounding.{member-turns, member-refused}
 use borrow.Author.Needs.{needs}
 use Rattle.types.proofs.member.Statement.{statement}
 use Rattle.types.proofs.member.Tie as tie
-use Rattle.types.proofs.member.Reads as reads
-use Rattle.types.proofs.member.Lts as lts
-use Rattle.nodes.proofs.protocol.Reads as protocol-reads
-use Rattle.nodes.proofs.took.Reads as took-reads
-use Rattle.types.proofs.cell.Reads as cell-reads
 
 -- src/lib.rt:209:9
 took-requires : tie.Need-took-requires

@@ -9,13 +9,6 @@ use Rattle.types.proofs.Nominals.{nominal-done, nominal-nameless, nomin
 use borrow.Author.Needs.{needs}
 use Rattle.types.proofs.nominal.Statement.{statement}
 use Rattle.types.proofs.nominal.Tie as tie
-use Rattle.types.proofs.nominal.Reads as reads
-use Rattle.types.proofs.nominal.Lts as lts
-use Rattle.nodes.proofs.context.Reads as context-reads
-use Rattle.nodes.proofs.pop_name.Reads as pop-name-reads
-use Rattle.nodes.proofs.push_kept.Reads as push-kept-reads
-use Rattle.records.proofs.field.Reads as field-reads
-use Rattle.nodes.proofs.nominal_number.Reads as nominal-number-reads
 
 -- src/lib.rt:35:11
 pop-name-requires : tie.Need-pop-name-requires

@@ -4,15 +4,11 @@ use Rattle.definition.specs.Kind as K
 use Rattle.nodes.proofs.Taking.{tried, tried-nothing}
 use Rattle.nodes.proofs.OneChilds.{taken-place}
 use Rattle.nodes.proofs.Ready.{ready-none}
-use Rattle.types.proofs.Gatherings.{gathering-ready, cell-fits}
+use Rattle.cells.proofs.Gatherings.{gathering-ready, cell-fits}
 use Rattle.types.proofs.Rounding.{requirement-turns, requirements-end}
 use borrow.Author.Needs.{needs}
 use Rattle.types.proofs.one_requirement.Statement.{statement}
 use Rattle.types.proofs.one_requirement.Tie as tie
-use Rattle.types.proofs.one_requirement.Reads as reads
-use Rattle.types.proofs.one_requirement.Lts as lts
-use Rattle.nodes.proofs.pop_if.Reads as pop-if-reads
-use Rattle.types.proofs.cell.Reads as cell-reads
 
 -- src/lib.rt:193:11
 pop-if-requires : tie.Need-pop-if-requires

@@ -4,12 +4,6 @@ use Rattle.types.specs.declared.Lists.{Lists}
 use borrow.Author.Needs.{needs}
 use Rattle.types.proofs.one_round.Statement.{statement}
 use Rattle.types.proofs.one_round.Tie as tie
-use Rattle.types.proofs.one_round.Reads as reads
-use Rattle.types.proofs.one_round.Lts as lts
-use Rattle.types.proofs.argument.Reads as argument-reads
-use Rattle.types.proofs.element.Reads as element-reads
-use Rattle.types.proofs.member.Reads as member-reads
-use Rattle.types.proofs.one_requirement.Reads as one-requirement-reads
 
 -- src/lib.rt:231:36
 enum-told : tie.Need-enum-told

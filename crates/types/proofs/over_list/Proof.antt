@@ -1,15 +1,10 @@
 use Rattle.types.specs.Lists.{loop-of}
 use Rattle.nodes.proofs.Ready.{ready-none, after-mark}
-use Rattle.types.proofs.Gatherings.{gathering-none}
+use Rattle.cells.proofs.Gatherings.{gathering-none}
 use Rattle.types.proofs.ListNodes.{gathered, collected, not-collected, list-empty, list-done, list-refused}
 use borrow.Author.Needs.{needs}
 use Rattle.types.proofs.over_list.Statement.{statement}
 use Rattle.types.proofs.over_list.Tie as tie
-use Rattle.types.proofs.over_list.Reads as reads
-use Rattle.types.proofs.over_list.Lts as lts
-use Rattle.nodes.proofs.took.Reads as took-reads
-use Rattle.types.proofs.collect.Reads as collect-reads
-use Rattle.types.proofs.push_list.Reads as push-list-reads
 
 -- src/lib.rt:275:9
 took-requires : tie.Need-took-requires

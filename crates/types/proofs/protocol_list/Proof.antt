@@ -8,10 +8,6 @@ use Rattle.types.proofs.ListNodes.{protocol-list-node}
 use borrow.Author.Needs.{needs}
 use Rattle.types.proofs.protocol_list.Statement.{statement}
 use Rattle.types.proofs.protocol_list.Tie as tie
-use Rattle.types.proofs.protocol_list.Reads as reads
-use Rattle.types.proofs.protocol_list.Lts as lts
-use Rattle.nodes.proofs.wrap.Reads as wrap-reads
-use Rattle.types.proofs.over_list.Reads as over-list-reads
 
 -- src/lib.rt:307:11
 wrap-requires : tie.Need-wrap-requires

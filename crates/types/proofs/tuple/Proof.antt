@@ -8,10 +8,6 @@ use Rattle.types.proofs.ListNodes.{tuple-node}
 use borrow.Author.Needs.{needs}
 use Rattle.types.proofs.tuple.Statement.{statement}
 use Rattle.types.proofs.tuple.Tie as tie
-use Rattle.types.proofs.tuple.Reads as reads
-use Rattle.types.proofs.tuple.Lts as lts
-use Rattle.nodes.proofs.wrap.Reads as wrap-reads
-use Rattle.types.proofs.over_list.Reads as over-list-reads
 
 -- src/lib.rt:296:11
 wrap-requires : tie.Need-wrap-requires

@@ -8,14 +8,14 @@ use Rattle.definition.specs.Perform.{Run}
 use Rattle.records.specs.Lies.{at}
 use Rattle.records.specs.Holds.{Spare, Ready}
 use Rattle.records.specs.declared.State.{State}
-use Rattle.nodes.specs.Gives.{spare, taken, Gives, Marks}
+use Rattle.nodes.specs.Gives.{taken, Gives, Marks}
 use Rattle.nodes.specs.declared.Marked.{Marked}
 use Rattle.nodes.proofs.Taking.{less-spare, keeps-itself}
 use Rattle.nodes.proofs.Ready.{room}
-use Rattle.types.specs.Lists.{grown, Gathering, CellFits, Labels}
-use Rattle.types.specs.declared.Chain.{Chain}
-use Rattle.types.specs.declared.LabelTaken.{LabelTaken}
-use Rattle.types.proofs.Cells.{listed-moves, listed-nil}
+use Rattle.cells.specs.Cells.{grown, Gathering, CellFits, Labels}
+use Rattle.cells.specs.declared.Chain.{Chain}
+use Rattle.cells.specs.declared.LabelTaken.{LabelTaken}
+use Rattle.cells.proofs.Cells.{listed-moves, listed-nil}
 
 module _ {w : List ℕ} {N : ℕ} {st : State} {sp : Spare} {l : Chain} where
   pub gathering-ready : Gathering w N st sp l → Ready w N st sp

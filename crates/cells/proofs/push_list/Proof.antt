@@ -1,9 +1,9 @@
 use native.Mathlib.Omega.{arith}
 use Rattle.nodes.proofs.Ready.{room}
-use Rattle.types.proofs.Gatherings.{gathering-ready, gathering-sum}
+use Rattle.cells.proofs.Gatherings.{gathering-ready, gathering-sum}
 use borrow.Author.Needs.{needs}
-use Rattle.types.proofs.push_list.Statement.{statement}
-use Rattle.types.proofs.push_list.Tie as tie
+use Rattle.cells.proofs.push_list.Statement.{statement}
+use Rattle.cells.proofs.push_list.Tie as tie
 
 add-push-new : tie.Need-add-push-new
 add-push-new c = record { fits = omega (arith, gathering-sum (c .before .before .before .pre)) }

@@ -1,13 +1,9 @@
 use mathlib.Core.Path.{refl, ap}
 use Prim.Native.Nat.{ℕ, _+_}
-use Rattle.types.proofs.Cells.{adds}
+use Rattle.cells.proofs.Cells.{adds}
 use borrow.Author.Needs.{needs}
-use Rattle.types.proofs.cell.Statement.{statement}
-use Rattle.types.proofs.cell.Tie as tie
-use Rattle.types.proofs.cell.Reads as reads
-use Rattle.types.proofs.cell.Lts as lts
-use Rattle.records.proofs.field.Reads as field-reads
-use Rattle.records.proofs.grow.Reads as grow-reads
+use Rattle.cells.proofs.cell.Statement.{statement}
+use Rattle.cells.proofs.cell.Tie as tie
 
 -- src/lib.rt:91:9
 field-requires : tie.Need-field-requires

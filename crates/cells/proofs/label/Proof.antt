@@ -4,14 +4,10 @@ use Rattle.definition.specs.Kind as K
 use Rattle.nodes.proofs.Taking.{tried, tried-nothing}
 use Rattle.nodes.proofs.OneChilds.{taken-place}
 use Rattle.nodes.proofs.Ready.{inside-record, after-given}
-use Rattle.types.proofs.Cells.{label-there, label-missing}
+use Rattle.cells.proofs.Cells.{label-there, label-missing}
 use borrow.Author.Needs.{needs}
-use Rattle.types.proofs.label.Statement.{statement}
-use Rattle.types.proofs.label.Tie as tie
-use Rattle.types.proofs.label.Reads as reads
-use Rattle.types.proofs.label.Lts as lts
-use Rattle.nodes.proofs.pop_if.Reads as pop-if-reads
-use Rattle.records.proofs.field.Reads as field-reads
+use Rattle.cells.proofs.label.Statement.{statement}
+use Rattle.cells.proofs.label.Tie as tie
 
 -- src/lib.rt:125:11
 pop-if-requires : tie.Need-pop-if-requires

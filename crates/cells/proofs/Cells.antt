@@ -19,8 +19,8 @@ use Rattle.records.specs.declared.State.{State}
 use Rattle.nodes.specs.Gives.{taken, GivenIf, GivesIf}
 use Rattle.nodes.proofs.ByKind.{identifier-of}
 use Rattle.nodes.proofs.Taking.{less-spare}
-use Rattle.types.specs.Lists.{grown, Listed, CellFits, Adds, Labels}
-use Rattle.types.specs.declared.Chain.{Chain}
+use Rattle.cells.specs.Cells.{grown, Listed, CellFits, Adds, Labels}
+use Rattle.cells.specs.declared.Chain.{Chain}
 
 -- cells stay where records are added above them, and may be found from another field
 pub cells-move : {w w′ : List ℕ} {N top : ℕ} (nm : Names) → Keeps w w′ N top → (ns : Nodes) (k k′ : ℕ) (f f′ : ℕ → ℕ) (p p′ : ℕ) → p ≤ top → p ≤ p′ → f′ k′ ≡ f k → Cells (Named nm) ns k f w p → Cells (Named nm) ns k′ f′ w′ p′
