@@ -1,6 +1,2 @@
-pub mod Answers
-pub mod ChainSteps
-pub mod OneOperator
-pub mod TurnSteps
 pub mod RunLoop
 pub mod StackNumbers

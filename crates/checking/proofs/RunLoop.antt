@@ -1,16 +1,15 @@
 -- Turns one after another. Assumes nothing.
 use mathlib.Core.Path.{_≡_, refl, sym, ap, subst, _∙_}
-use mathlib.Core.List.{List, [], _∷_}
-use Prim.Native.Nat.{ℕ, zero, suc, _+_, _*_, _-_, _≤_, _<_}
+use mathlib.Core.List.{List, []}
+use Prim.Native.Nat.{ℕ, suc, _+_, _*_, _-_, _≤_, _<_}
 use native.Mathlib.Omega.{arith}
 use native.Mathlib.Nat.{le-of-eq}
-use lib.ListN.{length, getD, drop, length-drop}
-use Rattle.definition.specs.Base.{Out, ok, refused}
+use lib.ListN.{length, drop}
 use Rattle.definition.specs.Text.{Text}
 use Rattle.definition.specs.Budget as B
 use Rattle.definition.specs.Machine as M
 use Rattle.definition.specs.Shape.{Check}
-use Rattle.definition.specs.Calls.{ran, stopped, turn, turns}
+use Rattle.definition.specs.Calls.{turn, turns}
 use Rattle.definition.specs.Check as Ch
 use Rattle.definition.specs.Enums.{number}
 use Rattle.definition.specs.declared.Refusal.{Refusal}
@@ -23,9 +22,10 @@ use Rattle.entries.specs.declared.State.{State}
 use Rattle.runs.proofs.Turns.{over, no-more, goes-on, stops}
 use Rattle.shape.specs.Performs.{Outside, Sound}
 use Rattle.shape.proofs.Stores.{outside-both, outside-none}
-use Rattle.checking.specs.Runs.{Reaches, Refuses, Turning, check, Ran, Stopped}
-use Rattle.checking.specs.declared.Turned.{Turned}
-use Rattle.checking.specs.declared.Turned.the-variants as Turned
+use Rattle.check_turns.specs.Turns.{Reaches, Refuses, Turning}
+use Rattle.checking.specs.Runs.{check, Ran, Stopped}
+use Rattle.check_turns.specs.declared.Turned.{Turned}
+use Rattle.check_turns.specs.declared.Turned.the-variants as Turned
 
 -- THE LOOP: i turns are done, and the rest comes to what the whole does
 pub record Running (N k : ℕ) (body : Text) (w w₁ : List ℕ) (i at : ℕ) (u : State) : Type 0 where

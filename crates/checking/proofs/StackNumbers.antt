@@ -1,17 +1,15 @@
 -- The stack's entries as numbers, and one entry that is left. Assumes nothing.
 use mathlib.Core.Path.{_≡_, refl, sym, ap, _∙_}
-use mathlib.Core.Bool.{Bool, true, false, not}
+use mathlib.Core.Bool.{Bool, true, false}
 use mathlib.Core.List.{List, [], _∷_, _++_, reverse, reverse-cons, append-assoc}
 use Prim.Native.Nat.{ℕ, zero, suc, _+_, _*_, _≤_, _<_}
 use native.Mathlib.Omega.{arith}
 use native.Mathlib.Numerals.{add-one}
-use lib.Dec.{eqb}
 use lib.ListN.{length, getD, set, take, drop, length-set}
 use lib.Seq.{take-suc, paste, paste-zero, paste-suc, length-take-le}
 use Rattle.definition.specs.Base.{is-some}
-use Rattle.definition.specs.Kind as K
 use Rattle.definition.specs.Shape as C
-use Rattle.definition.specs.Calls.{symbol-kind, single, entry-numbers}
+use Rattle.definition.specs.Calls.{single, entry-numbers}
 use Rattle.entries.specs.Lies.{entry-at, stack-of}
 use Rattle.runs.specs.Ends.{kinds-of, Front, TooMany}
 use Rattle.runs.specs.declared.Final.{Final}

@@ -5,9 +5,6 @@ use Rattle.checking.proofs.StackNumbers.{single-not, single-taken}
 use borrow.Author.Needs.{needs}
 use Rattle.checking.proofs.single.Statement.{statement}
 use Rattle.checking.proofs.single.Tie as tie
-use Rattle.checking.proofs.single.Reads as reads
-use Rattle.checking.proofs.single.Lts as lts
-use Rattle.runs.proofs.takes.Reads as takes-reads
 
 -- src/lib.rt:201:9
 returns : tie.Need-returns

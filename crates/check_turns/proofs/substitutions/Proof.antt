@@ -1,11 +1,11 @@
--- `checking::substitutions` meets its contract. Assumes nothing.
+-- `check_turns::substitutions` meets its contract. Assumes nothing.
 use native.Mathlib.Omega.{arith}
 use Prim.Native.Nat.{_-_}
 use lib.ListN.{length}
-use Rattle.checking.proofs.ChainSteps.{Chaining, chain-first, chain-more, chain-last, chain-refused, went-on, was-last, was-refused}
+use Rattle.check_turns.proofs.ChainSteps.{Chaining, chain-first, chain-more, chain-last, chain-refused, went-on, was-last, was-refused}
 use borrow.Author.Needs.{needs}
-use Rattle.checking.proofs.substitutions.Statement.{statement}
-use Rattle.checking.proofs.substitutions.Tie as tie
+use Rattle.check_turns.proofs.substitutions.Statement.{statement}
+use Rattle.check_turns.proofs.substitutions.Tie as tie
 
 abbrev Inv-loop : tie.InvT-loop
 Inv-loop text ws₀ ceiling left₀ c₀ ws left c = Chaining ceiling text (c₀ .at) (c .at) ws₀ ws left₀ left

@@ -20,7 +20,7 @@ use Rattle.entries.specs.Lies.{machine-of}
 use Rattle.entries.specs.declared.State.{State}
 use Rattle.shape.specs.Performs.{Sound}
 use Rattle.shape.proofs.Stores.{outside-none}
-use Rattle.checking.specs.Runs.{Refuses}
+use Rattle.check_turns.specs.Turns.{Refuses}
 
 -- after a match
 module _ (out : Out B.Budget Done) {r : Spent} where

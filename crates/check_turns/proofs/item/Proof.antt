@@ -1,14 +1,14 @@
--- `checking::item` meets its contract. Assumes nothing.
+-- `check_turns::item` meets its contract. Assumes nothing.
 use mathlib.Core.Path.{subst}
 use lib.ListN.{drop}
 use Rattle.substitutions.specs.Chain.{chain, Copied}
 use Rattle.substitutions.specs.declared.SubstitutionRead.the-variants as SubstitutionRead
 use Rattle.shape.specs.Performs.{Wrote, recall-copies}
-use Rattle.checking.proofs.Answers.{was-done, was-not-done}
-use Rattle.checking.proofs.ChainSteps.{item-more, item-last, item-fails, item-broken}
+use Rattle.check_turns.proofs.Answers.{was-done, was-not-done}
+use Rattle.check_turns.proofs.ChainSteps.{item-more, item-last, item-fails, item-broken}
 use borrow.Author.Needs.{needs}
-use Rattle.checking.proofs.item.Statement.{statement}
-use Rattle.checking.proofs.item.Tie as tie
+use Rattle.check_turns.proofs.item.Statement.{statement}
+use Rattle.check_turns.proofs.item.Tie as tie
 
 -- the item that was read, and what it did
 read : (c : tie.After-times) → Copied (chain (drop (c .before .before .before .before .before .args .c .at) (c .before .before .before .before .before .args .text .now))) (c .before .before .before .before .before .args .text .now) (c .before .before .before .before .before .args .c .at) (SubstitutionRead.Copies (c .times .given .0 .0) (c .times .given .0 .1 .0) (c .times .given .0 .1 .1 .0) (c .times .given .0 .1 .1 .1 .0))

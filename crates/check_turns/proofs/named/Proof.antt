@@ -1,13 +1,13 @@
--- `checking::named` meets its contract. Assumes nothing.
+-- `check_turns::named` meets its contract. Assumes nothing.
 use mathlib.Core.Path.{subst}
 use lib.ListN.{drop}
 use Rattle.definition.specs.Check as Ch
 use Rattle.identifiers.specs.Answers.{Counted, Counts}
 use Rattle.shape.proofs.Sounds.{sound-name}
-use Rattle.checking.proofs.Answers.{then-wrote, not-read}
+use Rattle.check_turns.proofs.Answers.{then-wrote, not-read}
 use borrow.Author.Needs.{needs}
-use Rattle.checking.proofs.named.Statement.{statement}
-use Rattle.checking.proofs.named.Tie as tie
+use Rattle.check_turns.proofs.named.Statement.{statement}
+use Rattle.check_turns.proofs.named.Tie as tie
 
 read : (c : tie.After-count) → Counts (Ch.identifier (c .before .before .before .before .before .args .st .words) (drop (c .before .before .before .before .before .args .c .at) (c .before .before .before .before .before .args .text .now))) (c .before .before .before .before .before .args .text .now) (c .before .before .before .before .before .args .c .at) (c .count .given .0 .0) (c .count .given .0 .1 .0)
 read c = subst (Counted (Ch.identifier (c .before .before .before .before .before .args .st .words) (drop (c .before .before .before .before .before .args .c .at) (c .before .before .before .before .before .args .text .now))) (c .before .before .before .before .before .args .text .now) (c .before .before .before .before .before .args .c .at)) (c .count .given .1) (c .before .before .identifier-count .ensures)

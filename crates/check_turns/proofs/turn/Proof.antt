@@ -1,14 +1,14 @@
--- `checking::turn` meets its contract. Assumes nothing.
+-- `check_turns::turn` meets its contract. Assumes nothing.
 use lib.ListN.{drop}
 use Rattle.definition.specs.Budget as B
 use Rattle.definition.specs.Calls as Calls
 use Rattle.definition.specs.Check as Ch
 use Rattle.budget.specs.Spent.{budget-of}
-use Rattle.checking.proofs.Answers.{turning-is}
-use Rattle.checking.proofs.TurnSteps.{left, not-left, with-budget, no-step, no-charge, turn-is, begin-sound}
+use Rattle.check_turns.proofs.Answers.{turning-is}
+use Rattle.check_turns.proofs.TurnSteps.{left, not-left, with-budget, no-step, no-charge, turn-is, begin-sound}
 use borrow.Author.Needs.{needs}
-use Rattle.checking.proofs.turn.Statement.{statement}
-use Rattle.checking.proofs.turn.Tie as tie
+use Rattle.check_turns.proofs.turn.Statement.{statement}
+use Rattle.check_turns.proofs.turn.Tie as tie
 
 step-requires : tie.Need-step-requires
 step-requires c κs = search needs

@@ -6,7 +6,7 @@ use mathlib.Core.Logic.{inl, inr}
 use Prim.Native.Nat.{ℕ}
 use native.Mathlib.Omega.{arith}
 use lib.ListN.{drop}
-use Rattle.definition.specs.Base.{Out, ok, refused, Step, Done, ret, and-then, good, bad}
+use Rattle.definition.specs.Base.{Out, ok, refused, Done, ret, and-then, good, bad}
 use Rattle.definition.specs.Text.{Text}
 use Rattle.definition.specs.Machine as M
 use Rattle.definition.specs.Operators as Op
@@ -27,9 +27,9 @@ use Rattle.shape.proofs.Stores.{outside-both, outside-none}
 use Rattle.shape.proofs.Leaves.{sound-seen}
 use Rattle.shape.proofs.Recalls.{not-recalled}
 use Rattle.shape.proofs.Sounds.{sound-recall}
-use Rattle.checking.specs.Runs.{Reaches, Refuses, performs, chained, Goes, Letters}
-use Rattle.checking.specs.declared.Letter.{Letter}
-use Rattle.checking.specs.declared.Letter.the-variants as Letter
+use Rattle.check_turns.specs.Turns.{Reaches, Refuses, performs, chained, Goes, Letters}
+use Rattle.check_turns.specs.declared.Letter.{Letter}
+use Rattle.check_turns.specs.declared.Letter.the-variants as Letter
 
 module _ (N : ℕ) (m : Shapes) where
   -- an item, then the rest

@@ -1,6 +1,6 @@
 -- The operator that begins at a place of a text. Assumes nothing.
 use mathlib.Core.Path.{_≡_, sym, ap, subst, _∙_}
-use mathlib.Core.Bool.{Bool, true, false}
+use mathlib.Core.Bool.{true, false}
 use mathlib.Core.List.{List, _∷_}
 use Prim.Native.Nat.{ℕ, _+_, _<_}
 use native.Mathlib.Omega.{arith}
@@ -26,9 +26,9 @@ use Rattle.letters.specs.declared.OperatorRead.{OperatorRead}
 use Rattle.letters.specs.declared.OperatorRead.the-variants as OperatorRead
 use Rattle.substitutions.proofs.ChainLaws.{operator-chain}
 use Rattle.shape.specs.Performs.{Sound}
-use Rattle.checking.specs.Runs.{Refuses, Turning, Performed, performs, chained}
-use Rattle.checking.specs.declared.Turned.{Turned}
-use Rattle.checking.proofs.Answers.{turning-is, then-performed, not-read}
+use Rattle.check_turns.specs.Turns.{Refuses, Turning, Performed, performs, chained}
+use Rattle.check_turns.specs.declared.Turned.{Turned}
+use Rattle.check_turns.proofs.Answers.{turning-is, then-performed, not-read}
 
 -- a charge that is not used
 pub sound-less : {N : ℕ} {w : List ℕ} {st : State} → Sound 1 N w st → Sound 0 N w st

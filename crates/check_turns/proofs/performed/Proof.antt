@@ -1,13 +1,13 @@
--- `checking::performed` meets its contract. Assumes nothing.
+-- `check_turns::performed` meets its contract. Assumes nothing.
 use mathlib.Core.Path.{refl}
 use Rattle.definition.specs.Shape as C
 use Rattle.definition.specs.Enums as Enums
 use Rattle.fixed_names.specs.Fixed.{fixed}
 use Rattle.shape.proofs.Sounds.{sound-row}
-use Rattle.checking.proofs.Answers.{was-done, was-not-done}
+use Rattle.check_turns.proofs.Answers.{was-done, was-not-done}
 use borrow.Author.Needs.{needs}
-use Rattle.checking.proofs.performed.Statement.{statement}
-use Rattle.checking.proofs.performed.Tie as tie
+use Rattle.check_turns.proofs.performed.Statement.{statement}
+use Rattle.check_turns.proofs.performed.Tie as tie
 
 perform-requires : tie.Need-perform-requires
 perform-requires c κs = search needs

@@ -16,9 +16,9 @@ use Rattle.shape.specs.Performs.{Wrote, Failed, Performing, Sound}
 use Rattle.shape.specs.declared.Step.{Step}
 use Rattle.shape.specs.declared.Step.the-variants as Step
 use Rattle.shape.proofs.Stores.{outside-none}
-use Rattle.checking.specs.Runs.{Reaches, Refuses, Turning, Performed}
-use Rattle.checking.specs.declared.Turned.{Turned}
-use Rattle.checking.specs.declared.Turned.the-variants as Turned
+use Rattle.check_turns.specs.Turns.{Reaches, Refuses, Turning, Performed}
+use Rattle.check_turns.specs.declared.Turned.{Turned}
+use Rattle.check_turns.specs.declared.Turned.the-variants as Turned
 
 -- an answer to one step is one to a step that does the same, also from a state with another budget
 pub turning-is : (N : ℕ) (text : Text) (w w₁ : List ℕ) (st st₁ : State) (f g : Check Text) → f (machine-of w N st) ≡ g (machine-of w N st₁) → (r : Turned) → Turning g N text w w₁ st₁ r → Turning f N text w w₁ st r

@@ -1,10 +1,10 @@
--- `checking::one` meets its contract. Assumes nothing.
-use Rattle.checking.proofs.OneOperator.{sound-less, is-name, is-row, is-chain, is-refused}
+-- `check_turns::one` meets its contract. Assumes nothing.
+use Rattle.check_turns.proofs.OneOperator.{sound-less, is-name, is-row, is-chain, is-refused}
 use Rattle.runs.proofs.Turns.{digit-here}
 use native.Mathlib.Omega.{arith}
 use borrow.Author.Needs.{needs}
-use Rattle.checking.proofs.one.Statement.{statement}
-use Rattle.checking.proofs.one.Tie as tie
+use Rattle.check_turns.proofs.one.Statement.{statement}
+use Rattle.check_turns.proofs.one.Tie as tie
 
 peek-is-digit-requires : tie.Need-peek-is-digit-requires
 peek-is-digit-requires c κs = search needs

@@ -1,0 +1,4 @@
+pub mod Answers
+pub mod ChainSteps
+pub mod OneOperator
+pub mod TurnSteps

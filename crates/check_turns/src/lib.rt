@@ -1,0 +1,140 @@
+// One turn of the shape check's run: an operator's letters are read and performed.
+ghost use Prim.Native.Nat.{_≤_, _<_};
+ghost use lib.ListN.{length, drop};
+ghost use Rattle.definition.specs.Calls as Calls;
+ghost use Rattle.definition.specs.Check as Ch;
+ghost use Rattle.definition.specs.Enums as Enums;
+ghost use Rattle.definition.specs.Shape as C;
+ghost use Rattle.substitutions.specs.Chain.{chain, outcome};
+ghost use Rattle.fixed_names.specs.Fixed.{fixed};
+ghost use Rattle.shape.specs.Performs.{Sound};
+ghost use Rattle.check_turns.specs.Turns.{performs, Letters, Performed, Turning};
+use budget::Spent;
+use definition::Operator;
+use definition::Refusal;
+use entries::State;
+use identifiers::CountRead;
+use letters::OperatorRead;
+use shape::Step;
+use substitutions::SubstitutionRead;
+use text::Cursor;
+
+// The state after an operator and the cursor behind it, or its refusal.
+pub enum Turned {
+    To(State, Cursor),
+    Refused(Refusal),
+}
+
+// One item behind `A` was performed: more follow, it was the last, or it is refused.
+pub enum Letter {
+    More(State, Cursor),
+    Last(State, Cursor),
+    Refused(Refusal),
+}
+
+// The next item behind `A`: so many copies of a remembered entry.
+fn item(text: &[u8], c: Cursor, ws: &mut [u32], ceiling: usize, st: State) -> Letter
+    requires { ⌜ Sound 0 ceiling (now ws) st ⌝ }
+    ensures { λ r. ⌜ Letters ceiling (now (text .entry)) (c .at) (now (ws .entry)) (now (ws .exit)) st r ⌝ }
+{
+    match substitutions::substitution(text, c) {
+        SubstitutionRead::Copies(times, index, last, next) => {
+            match shape::recall(ws, ceiling, st, times, index) {
+                Step::Done(u) => {
+                    if last {
+                        return Letter::Last(u, next);
+                    }
+                    return Letter::More(u, next);
+                }
+                Step::Refused(r) => {
+                    return Letter::Refused(r);
+                }
+            }
+        }
+        SubstitutionRead::Broken(f) => Letter::Refused(f),
+    }
+}
+
+// `A`, from the cursor behind it: its items one by one.
+fn substitutions(text: &[u8], from: Cursor, ws: &mut [u32], ceiling: usize, st: State) -> Turned
+    requires { ⌜ Sound 0 ceiling (now ws) st ⌝ }
+    ensures { λ r. ⌜ Turning (performs ceiling (outcome (chain (drop (from .at) (now (text .entry)))))) ceiling (now (text .entry)) (now (ws .entry)) (now (ws .exit)) st r ⌝ }
+{
+    let mut left = st;
+    let mut c = from;
+    loop {
+        match item(text, c, ws, ceiling, left) {
+            Letter::More(u, next) => {
+                left = u;
+                c = next;
+            }
+            Letter::Last(u, next) => {
+                return Turned::To(u, next);
+            }
+            Letter::Refused(r) => {
+                return Turned::Refused(r);
+            }
+        }
+    }
+}
+
+// A name, whose identifier begins at the cursor.
+fn named(text: &[u8], c: Cursor, ws: &mut [u32], ceiling: usize, st: State) -> Turned
+    requires { ⌜ Sound 1 ceiling (now ws) st × (c .at ≤ length (now text)) × (length (now text) ≤ 65535) ⌝ }
+    ensures { λ r. ⌜ Turning (Calls.then-run (Ch.identifier (st .words) (drop (c .at) (now (text .entry)))) (λ x. Ch.name ceiling (x .words))) ceiling (now (text .entry)) (now (ws .entry)) (now (ws .exit)) st r ⌝ }
+{
+    let known = st.words;
+    match identifiers::identifier_count(text, c, known) {
+        CountRead::Read(count, next) => Turned::To(shape::name(ws, ceiling, st, count), next),
+        CountRead::Refused(f) => Turned::Refused(f),
+    }
+}
+
+// An operator that was read, but for `A`; the cursor stands behind it.
+fn performed(ws: &mut [u32], ceiling: usize, st: State, op: Operator, next: Cursor) -> Turned
+    requires { ⌜ Sound 1 ceiling (now ws) st ⌝ }
+    ensures { λ r. ⌜ Performed (C.run-row ceiling (C.row (Enums.operator fixed op))) ceiling (now (ws .entry)) (now (ws .exit)) st next r ⌝ }
+{
+    match shape::perform(ws, ceiling, st, op) {
+        Step::Done(u) => Turned::To(u, next),
+        Step::Refused(r) => Turned::Refused(r),
+    }
+}
+
+// The operator that begins at the cursor.
+fn one(text: &[u8], c: Cursor, ws: &mut [u32], ceiling: usize, st: State) -> Turned
+    requires { ⌜ Sound 1 ceiling (now ws) st × (c .at < length (now text)) × (length (now text) ≤ 65535) ⌝ }
+    ensures { λ r. ⌜ Turning (Ch.one ceiling (drop (c .at) (now (text .entry)))) ceiling (now (text .entry)) (now (ws .entry)) (now (ws .exit)) st r ⌝ }
+{
+    if text::peek_is_digit(text, c) {
+        return named(text, c, ws, ceiling, st);
+    }
+    match operators::operator(text, c) {
+        OperatorRead::Read(op, next) => performed(ws, ceiling, st, op, next),
+        OperatorRead::Substitutions(next) => substitutions(text, next, ws, ceiling, st),
+        OperatorRead::Refused(f) => Turned::Refused(f),
+    }
+}
+
+// One turn of `run`: a step, a charge of 1, an operator.
+pub fn turn(text: &[u8], c: Cursor, ws: &mut [u32], ceiling: usize, st: State) -> Turned
+    requires { ⌜ Sound 0 ceiling (now ws) st × (c .at < length (now text)) × (length (now text) ≤ 65535) ⌝ }
+    ensures { λ r. ⌜ Turning (Calls.turn ceiling (Ch.one ceiling) (drop (c .at) (now (text .entry)))) ceiling (now (text .entry)) (now (ws .entry)) (now (ws .exit)) st r ⌝ }
+{
+    let budget = st.budget;
+    match budget.step() {
+        Spent::Left(stepped) => match stepped.charge(ceiling, 1) {
+            Spent::Left(charged) => {
+                let next = State {
+                    budget: charged,
+                    depth: st.depth,
+                    seen: st.seen,
+                    words: st.words,
+                };
+                one(text, c, ws, ceiling, next)
+            }
+            Spent::Refused(r) => Turned::Refused(r),
+        },
+        Spent::Refused(r) => Turned::Refused(r),
+    }
+}
