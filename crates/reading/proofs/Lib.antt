@@ -1,5 +1,2 @@
-pub mod ChainSteps
-pub mod TurnSteps
-pub mod MoreWords
 pub mod RunLoop
 pub mod StackEnds

@@ -1,33 +1,34 @@
 -- Turns one after another. Assumes nothing.
-use mathlib.Core.Path.{_≡_, refl, sym, ap, subst, _∙_}
-use mathlib.Core.List.{List, [], _∷_}
-use Prim.Native.Nat.{ℕ, zero, suc, _+_, _*_, _-_, _≤_, _<_}
+use mathlib.Core.Path.{_≡_, refl, ap, subst, _∙_}
+use mathlib.Core.List.{List, []}
+use Prim.Native.Nat.{ℕ, suc, _+_, _*_, _-_, _≤_, _<_}
 use native.Mathlib.Omega.{arith}
-use lib.ListN.{length, getD, drop}
-use Rattle.definition.specs.Base.{Name, Out, ok, refused}
+use lib.ListN.{length, drop}
+use Rattle.definition.specs.Base.{ok}
 use Rattle.definition.specs.Text.{Text}
 use Rattle.definition.specs.Budget as B
 use Rattle.definition.specs.Machine as M
 use Rattle.definition.specs.Perform.{Demangler}
 use Rattle.definition.specs.Reading as Reading
-use Rattle.definition.specs.Calls.{ran, stopped, turn, turns}
+use Rattle.definition.specs.Calls.{turn, turns}
 use Rattle.definition.specs.Enums.{number}
 use Rattle.definition.specs.declared.Refusal.{Refusal}
 use Rattle.budget.specs.Spent.{budget-of}
 use Rattle.budget.specs.declared.Budget.{Budget}
 use Rattle.text.specs.declared.Cursor.{Cursor}
-use Rattle.records.specs.Holds.{weight, Spare, Holds, Ready}
+use Rattle.records.specs.Holds.{weight, Holds}
 use Rattle.records.specs.declared.State.{State}
 use Rattle.runs.proofs.Turns.{over, no-more, goes-on, stops}
 use Rattle.nodes.specs.Gives.{nothing-spare, Beyond}
 use Rattle.nodes.proofs.Taking.{beyond-itself}
 use Rattle.nodes.proofs.Leaving.{beyond-both}
-use Rattle.naming.specs.Naming.{names-of, naming}
+use Rattle.naming.specs.Naming.{naming}
 use Rattle.words.specs.Table.{table, Fitting}
 use Rattle.words.specs.declared.Words.{Words}
-use Rattle.reading.specs.Runs.{Reads, Came, Comes, Fails, Turning, NameCame, NameFails, NameTurning, read, Ran, Stopped}
-use Rattle.reading.specs.declared.Turned.{Turned}
-use Rattle.reading.specs.declared.Turned.the-variants as Turned
+use Rattle.read_turns.specs.Turns.{Reads, Comes, Fails, Turning, NameCame, NameFails, NameTurning}
+use Rattle.reading.specs.Runs.{read, Ran, Stopped}
+use Rattle.read_turns.specs.declared.Turned.{Turned}
+use Rattle.read_turns.specs.declared.Turned.the-variants as Turned
 
 -- THE LOOP: i turns are done, and the rest comes to what the whole does
 pub record Running (N k : ℕ) (body : Text) (w w₁ : List ℕ) (i at : ℕ) (words : Words) (u : State) : Type 0 where

@@ -10,7 +10,7 @@ use lib.Dec.{ltb}
 use borrow.Author.Tests.{ltb-true, ltb-false}
 use lib.ListN.{length, getD, set, take, drop, length-append, length-set, length-drop}
 use lib.Seq.{take-at, drop-at, drop-drop, set-split, append-snoc}
-use Rattle.definition.specs.Node.{Node, kind, size, count, entry-of}
+use Rattle.definition.specs.Node.{Node, kind, entry-of}
 use Rattle.definition.specs.Kind as K
 use Rattle.definition.specs.Calls.{single, entry-numbers}
 use Rattle.definition.specs.Perform.{Demangler}

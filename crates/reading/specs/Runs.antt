@@ -2,23 +2,16 @@
 use mathlib.Core.Path.{_≡_}
 use mathlib.Core.List.{List, []}
 use Prim.Native.Nat.{ℕ, _-_, _≤_, _<_}
-use Prim.Native.String.{String}
-use lib.ListN.{length, drop}
-use Rattle.definition.specs.Base.{Name, Out, ok, refused, Done, and-then, _>>_}
-use Rattle.definition.specs.Budget as B
+use lib.ListN.{length}
 use Rattle.definition.specs.Machine as M
 use Rattle.definition.specs.Reading as Reading
 use Rattle.definition.specs.Text.{Text}
-use Rattle.definition.specs.Operators as Op
-use Rattle.definition.specs.Perform as R
-use Rattle.definition.specs.Perform.{Demangler, Run}
-use Rattle.definition.specs.Calls.{End, ran, stopped, then-run, turn, turns, single}
+use Rattle.definition.specs.Perform.{Demangler}
+use Rattle.definition.specs.Calls.{End, ran, stopped, turn, turns, single}
 use Rattle.definition.specs.Enums.{number}
 use Rattle.definition.specs.declared.Refusal.{Refusal}
-use Rattle.text.specs.declared.Cursor.{Cursor}
-use Rattle.substitutions.specs.Chain.{chain, outcome}
-use Rattle.naming.specs.Naming.{names-of, naming}
-use Rattle.records.specs.Holds.{Names, Named, Spare, Holds}
+use Rattle.naming.specs.Naming.{naming}
+use Rattle.records.specs.Holds.{Names, Named, Holds}
 use Rattle.records.specs.Lies.{Lies}
 use Rattle.runs.specs.Ends.{kinds-of}
 use Rattle.runs.specs.declared.Final.{Final}
@@ -27,105 +20,11 @@ use mathlib.Core.Option.{some, none}
 use Rattle.reading.specs.declared.Left.{Left}
 use Rattle.reading.specs.declared.Left.the-variants as Left
 use Rattle.records.specs.declared.State.{State}
-use Rattle.nodes.specs.Gives.{nothing-spare, full-spare, Beyond, Operates}
-use Rattle.nodes.specs.declared.Step.the-variants as Step
-use Rattle.words.specs.Table.{table, Fitting}
+use Rattle.nodes.specs.Gives.{nothing-spare, Beyond}
+use Rattle.words.specs.Table.{Fitting}
 use Rattle.words.specs.declared.Words.{Words}
 use Rattle.reading.specs.declared.Ended.{Ended}
 use Rattle.reading.specs.declared.Ended.the-variants as Ended
-use Rattle.reading.specs.declared.Begun.{Begun}
-use Rattle.reading.specs.declared.Begun.the-variants as Begun
-use Rattle.reading.specs.declared.NameTurned.{NameTurned}
-use Rattle.reading.specs.declared.Turned.{Turned}
-use Rattle.reading.specs.declared.Turned.the-variants as Turned
-use Rattle.reading.specs.declared.Letter.{Letter}
-use Rattle.reading.specs.declared.Letter.the-variants as Letter
-
--- some machine lies there, with the names of the body
-pub record Reads (text : Text) (w : List ℕ) (N : ℕ) (st : State) (sp : Spare) : Type 0 where
-  pub words : List Name
-  pub machine : Demangler
-  pub holds : Holds (names-of text words) w N st sp machine
-
--- the step comes to the text from c on, and to a machine that lies in the workspace w with u
-pub record Came (f : Run Text) (text : Text) (words : List Name) (w : List ℕ) (N : ℕ) (u : State) (c : Cursor) (m : Demangler) : Type 0 where
-  pub machine : Demangler
-  pub is : f m ≡ ok (drop (c .at) text) machine
-  pub holds : Holds (names-of text words) w N u nothing-spare machine
-
--- whatever machine lay there, with as much to spare
-pub record Comes (f : Run Text) (sp : Spare) (text : Text) (w w′ : List ℕ) (N : ℕ) (st u : State) (c : Cursor) : Type 0 where
-  pub comes : (words : List Name) (m : Demangler) → Holds (names-of text words) w N st sp m → Came f text words w′ N u c m
-  pub inside : c .at ≤ length text
-  pub beyond : Beyond w w′ N
-
-pub record Fails (f : Run Text) (sp : Spare) (text : Text) (w w′ : List ℕ) (N : ℕ) (st : State) (r : Refusal) : Type 0 where
-  pub fails : (words : List Name) (m : Demangler) → Holds (names-of text words) w N st sp m → f m ≡ refused (number r)
-  pub beyond : Beyond w w′ N
-
-abbrev pub Turning : Run Text → Spare → Text → (w w′ : List ℕ) (N : ℕ) (st : State) → Turned → Type 0
-Turning f sp text w w′ N st (Turned.To u c) = Comes f sp text w w′ N st u c
-Turning f sp text w w′ N st (Turned.Refused r) = Fails f sp text w w′ N st r
-
--- an operator's letters that were read, then what it does
-abbrev pub performs : (N : ℕ) → Out Text Op.Operator → Run Text
-performs N out = then-run out (λ op. R.perform N op)
-
--- `A` with the letters from a place on
-abbrev pub chained : (N : ℕ) → Text → ℕ → Run Text
-chained N text at = performs N (outcome (chain (drop at text)))
-
--- one item of `A` is done, and the rest comes to what the whole does
-pub record Went (N : ℕ) (text : Text) (at : ℕ) (words : List Name) (w : List ℕ) (u : State) (c : Cursor) (m : Demangler) : Type 0 where
-  pub machine : Demangler
-  pub is : chained N text at m ≡ chained N text (c .at) machine
-  pub holds : Holds (names-of text words) w N u nothing-spare machine
-
-pub record Goes (N : ℕ) (text : Text) (at : ℕ) (w w′ : List ℕ) (st u : State) (c : Cursor) : Type 0 where
-  pub goes : (words : List Name) (m : Demangler) → Holds (names-of text words) w N st nothing-spare m → Went N text at words w′ u c m
-  pub inside : c .at ≤ length text
-  pub onward : at < c .at
-  pub beyond : Beyond w w′ N
-
-abbrev pub Letters : (N : ℕ) → Text → (at : ℕ) → (w w′ : List ℕ) → State → Letter → Type 0
-Letters N text at w w′ st (Letter.More u c) = Goes N text at w w′ st u c
-Letters N text at w w′ st (Letter.Last u c) = Comes (chained N text at) nothing-spare text w w′ N st u c
-Letters N text at w w′ st (Letter.Refused r) = Fails (chained N text at) nothing-spare text w w′ N st r
-
--- an operator was performed, and the cursor is passed on
-abbrev pub Performed : ((ℕ → String) → Run Done) → (w w′ : List ℕ) (N : ℕ) (st : State) → Cursor → Turned → Type 0
-Performed f w w′ N st next (Turned.To u c) = Operates f w w′ N st (Step.Done u) × (c ≡ next)
-Performed f w w′ N st next (Turned.Refused r) = Operates f w w′ N st (Step.Refused r)
-
--- a step and a charge of 1
-abbrev pub step-and-charge : (N : ℕ) → Run Done
-step-and-charge N = M.spend B.step >> M.spend (B.charge N 1)
-
-pub record Charged (N : ℕ) (st u : State) : Type 0 where
-  pub top : u .top ≡ st .top
-  pub gives : (nm : Names) (w : List ℕ) (m : Demangler) → Holds nm w N st nothing-spare m → (m′ : Demangler) × (step-and-charge N m ≡ ok tt m′) × Holds nm w N u full-spare m′ × (m′ .words ≡ m .words)
-
-abbrev pub Begins : (N : ℕ) (st : State) → Begun → Type 0
-Begins N st (Begun.Next u) = Charged N st u
-Begins N st (Begun.Refused r) = (nm : Names) (w : List ℕ) (m : Demangler) → Holds nm w N st nothing-spare m → step-and-charge N m ≡ refused (number r)
-
--- a turn that reads a name, with the words of a table before it and after it
-pub record NameCame (N : ℕ) (text : Text) (at : ℕ) (words after : Words) (w w′ : List ℕ) (st u : State) (c : Cursor) : Type 0 where
-  pub comes : (m : Demangler) → Holds (names-of text (table text words)) w N st nothing-spare m → Came (turn N (Reading.one N) (drop at text)) text (table text after) w′ N u c m
-  pub inside : c .at ≤ length text
-  pub beyond : Beyond w w′ N
-
-pub record NameFails (N : ℕ) (text : Text) (at : ℕ) (words : Words) (w w′ : List ℕ) (st : State) (r : Refusal) : Type 0 where
-  pub fails : (m : Demangler) → Holds (names-of text (table text words)) w N st nothing-spare m → turn N (Reading.one N) (drop at text) m ≡ refused (number r)
-  pub beyond : Beyond w w′ N
-
-abbrev pub NameTurning : (N : ℕ) → Text → (at : ℕ) → (words after : Words) → (w w′ : List ℕ) → State → Turned → Type 0
-NameTurning N text at words after w w′ st (Turned.To u c) = NameCame N text at words after w w′ st u c
-NameTurning N text at words after w w′ st (Turned.Refused r) = NameFails N text at words w w′ st r
-
-pub record NameTurn (N : ℕ) (text : Text) (at : ℕ) (words : Words) (w w′ : List ℕ) (st : State) (r : NameTurned) : Type 0 where
-  pub turns : NameTurning N text at words (r .words) w w′ st (r .turn)
-  pub fitting : Fitting text (r .words)
 
 -- RUNS
 -- k turns of the reading over the body

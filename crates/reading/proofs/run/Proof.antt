@@ -2,17 +2,10 @@ use borrow.Author.Needs.{needs}
 use Prim.Native.Nat.{_-_}
 use native.Mathlib.Omega.{arith}
 use Rattle.runs.proofs.Turns.{digit-here}
-use Rattle.reading.proofs.ChainSteps.{reads-ready}
+use Rattle.read_turns.proofs.ChainSteps.{reads-ready}
 use Rattle.reading.proofs.RunLoop.{Running, run-first, run-reads, run-over, run-done, run-more, run-stopped, name-more, name-stopped, reached, not-reached, name-reached, name-not-reached}
 use Rattle.reading.proofs.run.Statement.{statement}
 use Rattle.reading.proofs.run.Tie as tie
-use Rattle.reading.proofs.run.Reads as reads
-use Rattle.reading.proofs.run.Lts as lts
-use Rattle.budget.proofs.Budget.new.Reads as Budget-new-reads
-use Rattle.reading.proofs.name_turn.Reads as name-turn-reads
-use Rattle.reading.proofs.turn.Reads as turn-reads
-use Rattle.text.proofs.peek_is_digit.Reads as peek-is-digit-reads
-use Rattle.words.proofs.Words.new.Reads as Words-new-reads
 
 abbrev Inv-loop : tie.InvT-loop
 Inv-loop body k ws₀ n st₀ words₀ c₀ i₀ ws st words c i = Running n k body ws₀ ws i (c .at) words st

@@ -6,11 +6,6 @@ use Rattle.reading.proofs.StackEnds.{single-none, single-inside, single
 use borrow.Author.Needs.{needs}
 use Rattle.reading.proofs.single.Statement.{statement}
 use Rattle.reading.proofs.single.Tie as tie
-use Rattle.reading.proofs.single.Reads as reads
-use Rattle.reading.proofs.single.Lts as lts
-use Rattle.records.proofs.field.Reads as field-reads
-use Rattle.records.proofs.wide.Reads as wide-reads
-use Rattle.runs.proofs.takes.Reads as takes-reads
 
 -- src/lib.rt:297:9
 returns : tie.Need-returns

@@ -7,10 +7,6 @@ use Rattle.nodes.proofs.Ready.{inside-record}
 use Rattle.reading.proofs.StackEnds.{Filling, fill-first, fill-more, fill-all, fill-none, stack-place, at-place}
 use Rattle.reading.proofs.write_stack.Statement.{statement}
 use Rattle.reading.proofs.write_stack.Tie as tie
-use Rattle.reading.proofs.write_stack.Reads as reads
-use Rattle.reading.proofs.write_stack.Lts as lts
-use Rattle.records.proofs.field.Reads as field-reads
-use Rattle.records.proofs.wide.Reads as wide-reads
 
 abbrev Inv-loop : tie.InvT-loop
 Inv-loop ws n out₀ depth numbers j₀ out j = Filling ws n out₀ out j × (j ≤ depth)

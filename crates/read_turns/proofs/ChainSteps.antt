@@ -3,10 +3,10 @@ use mathlib.Core.Path.{_≡_, refl, sym, ap, subst, _∙_}
 use mathlib.Core.Bool.{Bool, true, false}
 use mathlib.Core.List.{List}
 use mathlib.Core.Logic.{inl, inr}
-use Prim.Native.Nat.{ℕ, _≤_, _<_}
+use Prim.Native.Nat.{ℕ}
 use native.Mathlib.Omega.{arith}
-use lib.ListN.{length, drop}
-use Rattle.definition.specs.Base.{Name, Out, ok, refused, Step, Done, ret, and-then, good, bad}
+use lib.ListN.{drop}
+use Rattle.definition.specs.Base.{Name, Out, ok, refused, Done, ret, and-then, good, bad}
 use Rattle.definition.specs.Text.{Text}
 use Rattle.definition.specs.Machine as M
 use Rattle.definition.specs.Operators as Op
@@ -30,9 +30,9 @@ use Rattle.copies.specs.Copying.{Recalled, recall-copies}
 use Rattle.copies.proofs.Copies.{not-recalled}
 use Rattle.runs.proofs.Turns.{regroup}
 use Rattle.naming.specs.Naming.{names-of}
-use Rattle.reading.specs.Runs.{Reads, Came, Comes, Fails, performs, chained, Went, Goes, Letters}
-use Rattle.reading.specs.declared.Letter.{Letter}
-use Rattle.reading.specs.declared.Letter.the-variants as Letter
+use Rattle.read_turns.specs.Turns.{Reads, Comes, Fails, performs, chained, Goes, Letters}
+use Rattle.read_turns.specs.declared.Letter.{Letter}
+use Rattle.read_turns.specs.declared.Letter.the-variants as Letter
 
 module _ (N : ℕ) (m : Demangler) where
   -- an item, then the rest

@@ -1,11 +1,7 @@
-use Rattle.reading.proofs.TurnSteps.{begun-next, begun-not, reads-begun, turn-then, turn-not}
+use Rattle.read_turns.proofs.TurnSteps.{begun-next, begun-not, reads-begun, turn-then, turn-not}
 use borrow.Author.Needs.{needs}
-use Rattle.reading.proofs.turn.Statement.{statement}
-use Rattle.reading.proofs.turn.Tie as tie
-use Rattle.reading.proofs.turn.Reads as reads
-use Rattle.reading.proofs.turn.Lts as lts
-use Rattle.reading.proofs.begin.Reads as begin-reads
-use Rattle.reading.proofs.operated.Reads as operated-reads
+use Rattle.read_turns.proofs.turn.Statement.{statement}
+use Rattle.read_turns.proofs.turn.Tie as tie
 
 -- src/lib.rt:181:11
 begin-requires : tie.Need-begin-requires

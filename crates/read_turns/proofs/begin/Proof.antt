@@ -1,12 +1,8 @@
 use Rattle.nodes.proofs.Leaving.{spent-left, spent-refused}
-use Rattle.reading.proofs.TurnSteps.{begin-charged, begin-uncharged, begin-stopped}
+use Rattle.read_turns.proofs.TurnSteps.{begin-charged, begin-uncharged, begin-stopped}
 use borrow.Author.Needs.{needs}
-use Rattle.reading.proofs.begin.Statement.{statement}
-use Rattle.reading.proofs.begin.Tie as tie
-use Rattle.reading.proofs.begin.Reads as reads
-use Rattle.reading.proofs.begin.Lts as lts
-use Rattle.budget.proofs.Budget.charge.Reads as charge-reads
-use Rattle.budget.proofs.Budget.step.Reads as step-reads
+use Rattle.read_turns.proofs.begin.Statement.{statement}
+use Rattle.read_turns.proofs.begin.Tie as tie
 
 -- src/lib.rt:162:11
 step-requires : tie.Need-step-requires

@@ -1,13 +1,8 @@
-use Rattle.reading.proofs.ChainSteps.{reads-ready}
-use Rattle.reading.proofs.TurnSteps.{reads-less, is-operator, is-chain, is-refused}
+use Rattle.read_turns.proofs.ChainSteps.{reads-ready}
+use Rattle.read_turns.proofs.TurnSteps.{reads-less, is-operator, is-chain, is-refused}
 use borrow.Author.Needs.{needs}
-use Rattle.reading.proofs.operated.Statement.{statement}
-use Rattle.reading.proofs.operated.Tie as tie
-use Rattle.reading.proofs.operated.Reads as reads
-use Rattle.reading.proofs.operated.Lts as lts
-use Rattle.operators.proofs.operator.Reads as operator-reads
-use Rattle.reading.proofs.performed.Reads as performed-reads
-use Rattle.reading.proofs.substitutions.Reads as substitutions-reads
+use Rattle.read_turns.proofs.operated.Statement.{statement}
+use Rattle.read_turns.proofs.operated.Tie as tie
 
 -- src/lib.rt:148:11
 operator-requires : tie.Need-operator-requires

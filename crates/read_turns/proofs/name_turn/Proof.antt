@@ -1,15 +1,10 @@
 use mathlib.Core.Path.{refl}
 use native.Mathlib.Omega.{arith}
-use Rattle.reading.proofs.TurnSteps.{begun-next, begun-not}
-use Rattle.reading.proofs.MoreWords.{name-came, name-refused, name-not-begun, name-room, name-read, name-unread}
+use Rattle.read_turns.proofs.TurnSteps.{begun-next, begun-not}
+use Rattle.read_turns.proofs.MoreWords.{name-came, name-refused, name-not-begun, name-room, name-read, name-unread}
 use borrow.Author.Needs.{needs}
-use Rattle.reading.proofs.name_turn.Statement.{statement}
-use Rattle.reading.proofs.name_turn.Tie as tie
-use Rattle.reading.proofs.name_turn.Reads as reads
-use Rattle.reading.proofs.name_turn.Lts as lts
-use Rattle.reading.proofs.begin.Reads as begin-reads
-use Rattle.reading.proofs.name.Reads as name-reads
-use Rattle.identifiers.proofs.identifier.Reads as identifier-reads
+use Rattle.read_turns.proofs.name_turn.Statement.{statement}
+use Rattle.read_turns.proofs.name_turn.Tie as tie
 
 -- src/lib.rt:199:11
 begin-requires : tie.Need-begin-requires

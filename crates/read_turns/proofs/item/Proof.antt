@@ -1,14 +1,10 @@
 use mathlib.Core.Path.{subst}
 use lib.ListN.{drop}
 use Rattle.substitutions.specs.Chain.{chain, Copied}
-use Rattle.reading.proofs.ChainSteps.{reads-ready, was-recalled, item-last, item-more, item-fails, item-broken}
+use Rattle.read_turns.proofs.ChainSteps.{reads-ready, was-recalled, item-last, item-more, item-fails, item-broken}
 use borrow.Author.Needs.{needs}
-use Rattle.reading.proofs.item.Statement.{statement}
-use Rattle.reading.proofs.item.Tie as tie
-use Rattle.reading.proofs.item.Reads as reads
-use Rattle.reading.proofs.item.Lts as lts
-use Rattle.copies.proofs.recall.Reads as recall-reads
-use Rattle.substitutions.proofs.substitution.Reads as substitution-reads
+use Rattle.read_turns.proofs.item.Statement.{statement}
+use Rattle.read_turns.proofs.item.Tie as tie
 
 -- src/lib.rt:81:11
 substitution-requires : tie.Need-substitution-requires

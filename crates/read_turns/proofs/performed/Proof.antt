@@ -1,11 +1,8 @@
 use mathlib.Core.Path.{refl}
-use Rattle.reading.proofs.TurnSteps.{operated-as}
+use Rattle.read_turns.proofs.TurnSteps.{operated-as}
 use borrow.Author.Needs.{needs}
-use Rattle.reading.proofs.performed.Statement.{statement}
-use Rattle.reading.proofs.performed.Tie as tie
-use Rattle.reading.proofs.performed.Reads as reads
-use Rattle.reading.proofs.performed.Lts as lts
-use Rattle.performing.proofs.perform.Reads as perform-reads
+use Rattle.read_turns.proofs.performed.Statement.{statement}
+use Rattle.read_turns.proofs.performed.Tie as tie
 
 -- src/lib.rt:137:11
 perform-requires : tie.Need-perform-requires

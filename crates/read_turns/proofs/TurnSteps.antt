@@ -1,19 +1,18 @@
 -- A turn's beginning, and the operator behind it. Assumes nothing.
 use mathlib.Core.Path.{_≡_, refl, sym, ap, subst, _∙_}
 use mathlib.Core.Bool.{Bool, true, false}
-use mathlib.Core.List.{List, [], _∷_, _++_}
-use Prim.Native.Nat.{ℕ, suc, _+_, _*_, _≤_, _<_}
+use mathlib.Core.List.{List, _∷_}
+use Prim.Native.Nat.{ℕ, suc, _+_, _≤_, _<_}
 use Prim.Native.String.{String}
 use native.Mathlib.Omega.{arith}
-use lib.Dec.{ltb, leb}
+use lib.Dec.{ltb}
 use lib.ListN.{length, getD, drop}
-use Rattle.definition.specs.Base.{Name, digit, Out, ok, refused, Done, ret, if_then_else_, and-then, _>>_}
+use Rattle.definition.specs.Base.{digit, Out, ok, refused, Done, if_then_else_, and-then}
 use Rattle.definition.specs.Text.{Text}
 use Rattle.definition.specs.Words as W
 use Rattle.definition.specs.Budget as B
 use Rattle.definition.specs.Machine as M
 use Rattle.definition.specs.Machine.{machine}
-use Rattle.definition.specs.Node.{Identifier, kind, size, count, view}
 use Rattle.definition.specs.Operators as Op
 use Rattle.definition.specs.Perform as R
 use Rattle.definition.specs.Perform.{Demangler, Run}
@@ -21,38 +20,30 @@ use Rattle.definition.specs.Reading as Reading
 use Rattle.definition.specs.Calls.{then-run, turn}
 use Rattle.definition.specs.Enums as Enums
 use Rattle.definition.specs.Enums.{number}
-use Rattle.definition.proofs.WordsAdded as WA
 use Rattle.definition.specs.declared.Operator.{Operator}
 use Rattle.definition.specs.declared.Refusal.{Refusal}
 use Rattle.budget.specs.Spent.{budget-of}
 use Rattle.budget.specs.declared.Budget.{Budget}
 use Rattle.budget.proofs.Charging.{charge-room, charged-to}
 use Rattle.text.specs.declared.Cursor.{Cursor}
-use Rattle.text.proofs.Steps.{front, peek-read}
+use Rattle.text.proofs.Steps.{front}
 use Rattle.fixed_names.specs.Fixed.{fixed}
 use Rattle.letters.specs.Answers.{Stands}
 use Rattle.operators.specs.Answers.{Begun, OpensChain}
 use Rattle.letters.specs.declared.OperatorRead.{OperatorRead}
 use Rattle.letters.specs.declared.OperatorRead.the-variants as OperatorRead
 use Rattle.substitutions.proofs.ChainLaws.{operator-chain}
-use Rattle.records.specs.Lies.{Lies}
-use Rattle.records.specs.Holds.{Names, Named, spelled, Spare, Holds, Ready, for-record, for-push, for-keeping}
+use Rattle.records.specs.Holds.{Names, Spare, Holds}
 use Rattle.records.specs.declared.State.{State}
-use Rattle.nodes.specs.Gives.{nothing-spare, full-spare, Beyond, Operates, Kept}
+use Rattle.nodes.specs.Gives.{nothing-spare, full-spare, Operates}
 use Rattle.nodes.specs.declared.Step.{Step as Stepped}
-use Rattle.nodes.specs.declared.Step.the-variants as Step
 use Rattle.nodes.proofs.Taking.{less-spare, beyond-itself}
-use Rattle.words.specs.Table.{table, Fitting}
-use Rattle.words.specs.declared.Words.{Words}
-use Rattle.identifiers.specs.declared.NameRead.{NameRead}
-use Rattle.identifiers.specs.declared.NameRead.the-variants as NameRead
-use Rattle.identifiers.specs.Answers as Words·
 use Rattle.naming.specs.Naming.{names-of}
-use Rattle.reading.specs.Runs.{Reads, Came, Comes, Fails, Turning, performs, chained, Performed, step-and-charge, Charged, Begins, NameCame, NameFails, NameTurn}
-use Rattle.reading.specs.declared.Turned.{Turned}
-use Rattle.reading.specs.declared.Turned.the-variants as Turned
-use Rattle.reading.specs.declared.Begun.{Begun as Beginning}
-use Rattle.reading.specs.declared.Begun.the-variants as Beginning
+use Rattle.read_turns.specs.Turns.{Reads, Came, Fails, Turning, performs, chained, Performed, step-and-charge, Charged, Begins}
+use Rattle.read_turns.specs.declared.Turned.{Turned}
+use Rattle.read_turns.specs.declared.Turned.the-variants as Turned
+use Rattle.read_turns.specs.declared.Begun.{Begun as Beginning}
+use Rattle.read_turns.specs.declared.Begun.the-variants as Beginning
 
 -- A TURN'S BEGINNING
 step-total : (b c : B.Budget) → B.step b ≡ ok tt c → c .total ≡ b .total

@@ -1,11 +1,11 @@
 -- What lies in the workspace when more words are known; the name that is read then. Assumes nothing.
 use mathlib.Core.Path.{_≡_, refl, sym, ap, subst, _∙_}
-use mathlib.Core.Bool.{Bool, true, false}
+use mathlib.Core.Bool.{true}
 use mathlib.Core.List.{List, [], _∷_, _++_}
 use Prim.Native.Nat.{ℕ, suc, _+_, _*_, _≤_, _<_}
 use native.Mathlib.Omega.{arith}
 use lib.ListN.{length, getD, drop}
-use Rattle.definition.specs.Base.{Name, digit, Out, ok, refused, ret, and-then}
+use Rattle.definition.specs.Base.{Name, digit, Out, ok, refused}
 use Rattle.definition.specs.Text.{Text}
 use Rattle.definition.specs.Words as W
 use Rattle.definition.specs.Machine as M
@@ -13,7 +13,7 @@ use Rattle.definition.specs.Machine.{machine}
 use Rattle.definition.specs.Node.{Node, Identifier, kind, size, count, view}
 use Rattle.definition.specs.Perform.{Demangler}
 use Rattle.definition.specs.Reading as Reading
-use Rattle.definition.specs.Calls.{then-run, turn}
+use Rattle.definition.specs.Calls.{then-run}
 use Rattle.definition.specs.Enums.{number}
 use Rattle.definition.specs.declared.Refusal.{Refusal}
 use Rattle.definition.proofs.WordsAdded.{Begins, begins-refl, begins-trans, identifier-begins}
@@ -21,17 +21,17 @@ use Rattle.text.specs.declared.Cursor.{Cursor}
 use Rattle.records.specs.Lies.{Lies}
 use Rattle.records.specs.Holds.{Names, Named, spelled, fixed, Stack, Queue, Spare, Inside, Holds, Ready, for-record, for-push, for-keeping}
 use Rattle.records.specs.declared.State.{State}
-use Rattle.records.proofs.Frame.{Same, lies-move}
-use Rattle.nodes.specs.Gives.{nothing-spare, full-spare, Beyond, Kept}
+use Rattle.records.proofs.Frame.{lies-move}
+use Rattle.nodes.specs.Gives.{nothing-spare, full-spare, Kept}
 use Rattle.nodes.proofs.Taking.{less-spare, beyond-itself}
 use Rattle.naming.specs.Naming.{names-of}
-use Rattle.words.specs.Table.{table, Fitting}
+use Rattle.words.specs.Table.{table}
 use Rattle.words.specs.declared.Words.{Words}
 use Rattle.identifiers.specs.declared.NameRead.{NameRead}
 use Rattle.identifiers.specs.declared.NameRead.the-variants as NameRead
 use Rattle.identifiers.specs.Answers as Answers
-use Rattle.reading.specs.Runs.{Came, step-and-charge, Charged, NameCame, NameFails}
-use Rattle.reading.proofs.TurnSteps.{turn-is, one-name}
+use Rattle.read_turns.specs.Turns.{step-and-charge, Charged, NameCame, NameFails}
+use Rattle.read_turns.proofs.TurnSteps.{turn-is, one-name}
 
 module _ (text : Text) (ws vs : List Name) (b : Begins ws vs) where
   named-more : (k : ℕ) (n : Name) → Named (names-of text ws) k n → Named (names-of text vs) k n

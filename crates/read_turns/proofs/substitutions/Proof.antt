@@ -2,12 +2,10 @@ use borrow.Author.Needs.{needs}
 use Prim.Native.Nat.{_-_}
 use native.Mathlib.Omega.{arith}
 use lib.ListN.{length}
-use Rattle.reading.proofs.ChainSteps.{Chaining, chain-first, chain-more, chain-last, chain-refused, went-on, was-last, was-refused}
-use Rattle.reading.proofs.substitutions.Statement.{statement}
-use Rattle.reading.proofs.substitutions.Tie as tie
-use Rattle.reading.proofs.substitutions.Reads as reads
-use Rattle.reading.proofs.substitutions.Lts as lts
-use Rattle.reading.proofs.item.Reads as item-reads
+use Rattle.read_turns.proofs.ChainSteps.{Chaining, chain-first, chain-more, chain-last, chain-refused, went-on, was-last, was-refused}
+use Rattle.read_turns.proofs.substitutions.Statement.{statement}
+use Rattle.read_turns.proofs.substitutions.Tie as tie
+use Rattle.read_turns.proofs.substitutions.Reads as reads
 
 abbrev Inv-loop : tie.InvT-loop
 Inv-loop text ws₀ n left₀ c₀ ws left c = Chaining n text (c₀ .at) (c .at) ws₀ ws left₀ left
