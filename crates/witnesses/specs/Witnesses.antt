@@ -1,41 +1,13 @@
 -- What the code of records and witnesses says of the definition's steps.
-use mathlib.Core.Path.{_≡_}
-use mathlib.Core.List.{List}
-use mathlib.Core.Option.{Option}
-use Prim.Native.Nat.{ℕ, _+_, _*_, _^_, _≤_, _<_}
+use Prim.Native.Nat.{ℕ}
 use Prim.Native.String.{String}
-use Rattle.definition.specs.Base.{Name, ok, _>>=_}
-use Rattle.definition.specs.Kind as K
+use Rattle.definition.specs.Base.{Name, _>>=_}
 use Rattle.definition.specs.Machine.{push}
-use Rattle.definition.specs.Node.{Node, Record, many}
+use Rattle.definition.specs.Node.{Record}
 use Rattle.definition.specs.Operators.{About}
-use Rattle.definition.specs.Perform.{Demangler, try, about, one-or-none}
-use Rattle.records.specs.Lies.{at, Cells}
-use Rattle.records.specs.Holds.{Names, Named, Spare, Inside, Holds, Keeps}
-use Rattle.records.specs.declared.State.{State}
+use Rattle.definition.specs.Perform.{about}
 use Rattle.nodes.specs.Gives.{Performed}
-use Rattle.witnesses.specs.declared.Qualified.{Qualified}
 
 -- a record of words over what it is about; the words by the fixed names
 abbrev pub record-over : About → ((ℕ → String) → Name) → Performed
 record-over a what fixed = about a >>= λ x. push (Record (what fixed) x)
-
--- the tree at place p may be the child of a record that is pushed
-pub record Under (w : List ℕ) (N : ℕ) (st : State) (p : ℕ) : Type 0 where
-  pub inside : Inside w N st 5 1 0
-  pub below : p < st .top
-  pub fits : at w p 1 + 1 < 2 ^ 32
-
--- a protocol was taken if there was one, and its cell lies in w: wherever field 6 of a later record is its place
-pub record Qualifier (nm : Names) (w : List ℕ) (N : ℕ) (r : Qualified) (sp : Spare) (m : Demangler) : Type 0 where
-  pub protocol : Option Node
-  pub machine : Demangler
-  pub is : try K.is-protocol m ≡ ok protocol machine
-  pub form : r .form ≡ 2 + 2 * many (one-or-none protocol)
-  pub lies : (f : ℕ → ℕ) (p : ℕ) → f 6 ≡ r .cell → r .next .top ≤ p → Cells (Named nm) (one-or-none protocol) 6 f w p
-  pub holds : Holds nm w N (r .next) sp machine
-
-pub record Qualifies (w w′ : List ℕ) (N : ℕ) (st : State) (r : Qualified) : Type 0 where
-  pub rising : st .top ≤ r .next .top
-  pub keeps : Keeps w w′ N (st .top)
-  pub gives : (nm : Names) (sp : Spare) (m : Demangler) → Holds nm w N st sp m → Qualifier nm w′ N r sp m

@@ -8,14 +8,6 @@ use Rattle.witnesses.proofs.Witnessing.{after-qualifier, required-below
 use borrow.Author.Needs.{needs}
 use Rattle.witnesses.proofs.associated_conformance.Statement.{statement}
 use Rattle.witnesses.proofs.associated_conformance.Tie as tie
-use Rattle.witnesses.proofs.associated_conformance.Reads as reads
-use Rattle.witnesses.proofs.associated_conformance.Lts as lts
-use Rattle.nodes.proofs.pop_if.Reads as pop-if-reads
-use Rattle.nodes.proofs.pop_name.Reads as pop-name-reads
-use Rattle.nodes.proofs.protocol.Reads as protocol-reads
-use Rattle.nodes.proofs.push_new.Reads as push-new-reads
-use Rattle.nodes.proofs.took.Reads as took-reads
-use Rattle.witnesses.proofs.qualifier.Reads as qualifier-reads
 
 -- src/lib.rt:203:11
 protocol-requires : tie.Need-protocol-requires

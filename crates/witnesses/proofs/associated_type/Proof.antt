@@ -8,13 +8,6 @@ use Rattle.witnesses.proofs.Recording.{named-at, named-not, under-grown
 use borrow.Author.Needs.{needs}
 use Rattle.witnesses.proofs.associated_type.Statement.{statement}
 use Rattle.witnesses.proofs.associated_type.Tie as tie
-use Rattle.witnesses.proofs.associated_type.Reads as reads
-use Rattle.witnesses.proofs.associated_type.Lts as lts
-use Rattle.nodes.proofs.pop_name.Reads as pop-name-reads
-use Rattle.nodes.proofs.protocol.Reads as protocol-reads
-use Rattle.records.proofs.field.Reads as field-reads
-use Rattle.records.proofs.grow.Reads as grow-reads
-use Rattle.witnesses.proofs.push_record.Reads as push-record-reads
 
 -- src/lib.rt:148:11
 protocol-requires : tie.Need-protocol-requires

@@ -8,12 +8,6 @@ use Rattle.witnesses.proofs.Witnessing.{lazy-left, lazy-first, lazy-sec
 use borrow.Author.Needs.{needs}
 use Rattle.witnesses.proofs.lazy_witness.Statement.{statement}
 use Rattle.witnesses.proofs.lazy_witness.Tie as tie
-use Rattle.witnesses.proofs.lazy_witness.Reads as reads
-use Rattle.witnesses.proofs.lazy_witness.Lts as lts
-use Rattle.nodes.proofs.conformance.Reads as conformance-reads
-use Rattle.nodes.proofs.fixed_number.Reads as fixed-number-reads
-use Rattle.nodes.proofs.pop_if.Reads as pop-if-reads
-use Rattle.nodes.proofs.push_new.Reads as push-new-reads
 
 -- src/lib.rt:101:11
 conformance-requires : tie.Need-conformance-requires

@@ -11,12 +11,6 @@ use Rattle.witnesses.proofs.Witnessing.{witness-left, witness-first, wi
 use borrow.Author.Needs.{needs}
 use Rattle.witnesses.proofs.protocol_witness.Statement.{statement}
 use Rattle.witnesses.proofs.protocol_witness.Tie as tie
-use Rattle.witnesses.proofs.protocol_witness.Reads as reads
-use Rattle.witnesses.proofs.protocol_witness.Lts as lts
-use Rattle.nodes.proofs.conformance.Reads as conformance-reads
-use Rattle.nodes.proofs.pop_if.Reads as pop-if-reads
-use Rattle.nodes.proofs.push_new.Reads as push-new-reads
-use Rattle.records.proofs.field.Reads as field-reads
 
 -- src/lib.rt:124:11
 pop-if-requires : tie.Need-pop-if-requires

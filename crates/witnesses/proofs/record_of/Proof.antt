@@ -8,11 +8,6 @@ use Rattle.witnesses.proofs.Recording.{built-at, built-not, recorded, f
 use borrow.Author.Needs.{needs}
 use Rattle.witnesses.proofs.record_of.Statement.{statement}
 use Rattle.witnesses.proofs.record_of.Tie as tie
-use Rattle.witnesses.proofs.record_of.Reads as reads
-use Rattle.witnesses.proofs.record_of.Lts as lts
-use Rattle.nodes.proofs.fixed_number.Reads as fixed-number-reads
-use Rattle.witnesses.proofs.about.Reads as about-reads
-use Rattle.witnesses.proofs.push_record.Reads as push-record-reads
 
 -- src/lib.rt:79:11
 about-requires : tie.Need-about-requires

@@ -9,12 +9,6 @@ use Rattle.witnesses.proofs.Recording.{built-at, built-not, recorded, f
 use borrow.Author.Needs.{needs}
 use Rattle.witnesses.proofs.suspend_resume.Statement.{statement}
 use Rattle.witnesses.proofs.suspend_resume.Tie as tie
-use Rattle.witnesses.proofs.suspend_resume.Reads as reads
-use Rattle.witnesses.proofs.suspend_resume.Lts as lts
-use Rattle.nodes.proofs.high.Reads as high-reads
-use Rattle.nodes.proofs.low.Reads as low-reads
-use Rattle.witnesses.proofs.about.Reads as about-reads
-use Rattle.witnesses.proofs.push_record.Reads as push-record-reads
 
 -- src/lib.rt:90:11
 about-requires : tie.Need-about-requires

@@ -4,17 +4,10 @@ use Rattle.definition.specs.Kind as K
 use Rattle.definition.specs.Perform as R
 use Rattle.definition.specs.declared.About.the-variants as About
 use Rattle.nodes.proofs.Ready.{ready-none}
-use Rattle.witnesses.proofs.Recording.{about-as, builds-less, a-type, an-entity, a-context, a-protocol, a-conformance, anything}
+use Rattle.record_parts.proofs.Abouts.{about-as, builds-less, a-type, an-entity, a-context, a-protocol, a-conformance, anything}
 use borrow.Author.Needs.{needs}
-use Rattle.witnesses.proofs.about.Statement.{statement}
-use Rattle.witnesses.proofs.about.Tie as tie
-use Rattle.witnesses.proofs.about.Reads as reads
-use Rattle.witnesses.proofs.about.Lts as lts
-use Rattle.nodes.proofs.conformance.Reads as conformance-reads
-use Rattle.nodes.proofs.context.Reads as context-reads
-use Rattle.nodes.proofs.pop_if.Reads as pop-if-reads
-use Rattle.nodes.proofs.protocol.Reads as protocol-reads
-use Rattle.witnesses.proofs.built.Reads as built-reads
+use Rattle.record_parts.proofs.about.Statement.{statement}
+use Rattle.record_parts.proofs.about.Tie as tie
 
 -- src/lib.rt:49:44
 enum-told : tie.Need-enum-told

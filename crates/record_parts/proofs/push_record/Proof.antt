@@ -1,11 +1,7 @@
-use Rattle.witnesses.proofs.Recording.{left-sized}
+use Rattle.record_parts.proofs.Abouts.{left-sized}
 use borrow.Author.Needs.{needs}
-use Rattle.witnesses.proofs.push_record.Statement.{statement}
-use Rattle.witnesses.proofs.push_record.Tie as tie
-use Rattle.witnesses.proofs.push_record.Reads as reads
-use Rattle.witnesses.proofs.push_record.Lts as lts
-use Rattle.nodes.proofs.push_new.Reads as push-new-reads
-use Rattle.records.proofs.field.Reads as field-reads
+use Rattle.record_parts.proofs.push_record.Statement.{statement}
+use Rattle.record_parts.proofs.push_record.Tie as tie
 
 -- src/lib.rt:63:9
 field-requires : tie.Need-field-requires

@@ -1,9 +1,7 @@
-use Rattle.witnesses.proofs.Recording.{built-place, built-nothing}
+use Rattle.record_parts.proofs.Abouts.{built-place, built-nothing}
 use borrow.Author.Needs.{needs}
-use Rattle.witnesses.proofs.built.Statement.{statement}
-use Rattle.witnesses.proofs.built.Tie as tie
-use Rattle.witnesses.proofs.built.Reads as reads
-use Rattle.witnesses.proofs.built.Lts as lts
+use Rattle.record_parts.proofs.built.Statement.{statement}
+use Rattle.record_parts.proofs.built.Tie as tie
 
 -- src/lib.rt:38:23
 enum-known-r : tie.Need-enum-known-r

@@ -3,14 +3,10 @@ use Rattle.definition.specs.Kind as K
 use Rattle.definition.specs.Perform as R
 use Rattle.nodes.proofs.Taking.{tried, tried-nothing}
 use Rattle.nodes.proofs.Ready.{after-tried, room, small-place}
-use Rattle.witnesses.proofs.Witnessing.{top-small, qualifier-there, qualifier-missing}
+use Rattle.record_parts.proofs.Qualifiers.{top-small, qualifier-there, qualifier-missing}
 use borrow.Author.Needs.{needs}
-use Rattle.witnesses.proofs.qualifier.Statement.{statement}
-use Rattle.witnesses.proofs.qualifier.Tie as tie
-use Rattle.witnesses.proofs.qualifier.Reads as reads
-use Rattle.witnesses.proofs.qualifier.Lts as lts
-use Rattle.nodes.proofs.pop_if.Reads as pop-if-reads
-use Rattle.records.proofs.grow.Reads as grow-reads
+use Rattle.record_parts.proofs.qualifier.Statement.{statement}
+use Rattle.record_parts.proofs.qualifier.Tie as tie
 
 -- src/lib.rt:174:11
 pop-if-requires : tie.Need-pop-if-requires

@@ -1,0 +1,103 @@
+// What a record of words is about, its record, and the qualifier of an associated conformance.
+ghost use mathlib.Core.List.{List, [], _∷_};
+ghost use Prim.Native.Nat.{ℕ, _+_, _≤_};
+ghost use Rattle.definition.specs.Enums as Enums;
+ghost use Rattle.definition.specs.Node.{Node};
+ghost use Rattle.definition.specs.Perform as R;
+ghost use Rattle.records.specs.Lies.{at};
+ghost use Rattle.records.specs.Holds.{Ready};
+ghost use Rattle.records.specs.declared.State.{State as State-of};
+ghost use Rattle.nodes.specs.Gives.{spare, nothing-spare, Takes, Builds, Left};
+ghost use Rattle.record_parts.specs.Parts.{Under, Qualifies};
+use definition::About;
+use definition::Refusal;
+use kinds::Want;
+use nodes::Built;
+use records::Fields;
+use records::Popped;
+use records::State;
+
+// The form of an associated conformance with its qualifier's cell, and the state then.
+pub struct Qualified {
+    pub form: u32,
+    pub cell: u32,
+    pub next: State,
+}
+
+// A tree that was taken, as one that is built.
+fn built(r: Popped) -> Built
+    ensures { λ b. ⌜ ((f : R.Run Node) (gain : ℕ) (w w′ : List ℕ) (N : ℕ) (st : State-of) → 1 ≤ gain → Takes f gain w w′ N st r → Builds f 1 1 w w′ N st b) ⌝ }
+{
+    match r {
+        Popped::Place(p, u) => Built::Place(p, u),
+        Popped::Nothing => Built::Refused(Refusal::Stack),
+    }
+}
+
+// What a record is about.
+pub fn about(ws: &mut [u32], n: usize, st: State, what: About) -> Built
+    requires { ⌜ Ready (now ws) n st (spare 0 0 1 0) ⌝ }
+    ensures { λ r. ⌜ Builds (R.about (Enums.about what)) 1 1 (now (ws .entry)) (now (ws .exit)) n st r ⌝ }
+{
+    match what {
+        About::Type => built(nodes::pop_if(ws, n, st, Want::Type)),
+        About::Entity => built(nodes::pop_if(ws, n, st, Want::Entity)),
+        About::Context => built(nodes::context(ws, n, st)),
+        About::Protocol => built(nodes::protocol(ws, n, st)),
+        About::Conformance => nodes::conformance(ws, n, st),
+        About::Anything => built(nodes::pop_if(ws, n, st, Want::Anything)),
+    }
+}
+
+// A record of words over the tree at place p, on top of the stack. The form says which words c and d are.
+pub fn push_record(
+    ws: &mut [u32],
+    n: usize,
+    st: State,
+    p: usize,
+    form: u32,
+    c: u32,
+    d: u32,
+) -> State
+    requires { ⌜ Under (now ws) n st p ⌝ }
+    ensures { λ r. ⌜ Left (now (ws .entry)) (now (ws .exit)) n st r (26 ∷ (at (now (ws .entry)) p 1 + 1) ∷ 0 ∷ form ∷ p ∷ c ∷ d ∷ 0 ∷ []) ⌝ }
+{
+    let size = records::field(ws, p, 1);
+    let rest = Fields {
+        a: form,
+        b: p as u32,
+        c: c,
+        d: d,
+        e: 0,
+    };
+    nodes::push_new(ws, n, st, 26, size + 1, 0, rest)
+}
+
+// The protocol on top that qualifies an associated conformance, if there is one: in a cell of its own.
+pub fn qualifier(ws: &mut [u32], n: usize, st: State) -> Qualified
+    requires { ⌜ Ready (now ws) n st nothing-spare ⌝ }
+    ensures { λ r. ⌜ Qualifies (now (ws .entry)) (now (ws .exit)) n st r ⌝ }
+{
+    match nodes::pop_if(ws, n, st, Want::Protocol) {
+        Popped::Place(p, u) => {
+            let cell = u.top as u32;
+            let rest = Fields {
+                a: 4294967295,
+                b: p as u32,
+                c: 0,
+                d: 0,
+                e: 0,
+            };
+            Qualified {
+                form: 4,
+                cell: cell,
+                next: records::grow(ws, n, u, 0, 0, 0, rest),
+            }
+        }
+        Popped::Nothing => Qualified {
+            form: 2,
+            cell: 0,
+            next: st,
+        },
+    }
+}
