@@ -1,7 +1,7 @@
 -- What the number of a name stands for. Assumes nothing.
-use mathlib.Core.Path.{_≡_, refl, sym, ap, subst, _∙_}
+use mathlib.Core.Path.{_≡_, refl, sym, ap, _∙_}
 use mathlib.Core.Bool.{Bool, true, false, not, _&&_}
-use mathlib.Core.List.{List, [], _∷_, _++_}
+use mathlib.Core.List.{List, [], _∷_}
 use Prim.Native.Nat.{ℕ, zero, suc, _+_, _-_, _≤_, _<_}
 use native.Mathlib.Omega.{arith}
 use Prim.Native.String.{String}
@@ -9,20 +9,17 @@ use borrow.Author.Tests.{ltb-true, ltb-false, ne-eqb}
 use lib.Dec.{T, eqb, ltb}
 use lib.Seq.{drop-nil}
 use lib.ListN.{length, drop, getD, List·getD-eq-default}
-use Rattle.definition.specs.Base.{Name, bytes, same, Out, ok, refused}
-use Rattle.definition.specs.Base.{opened as opened₀}
+use Rattle.definition.specs.Base.{Name, bytes, same, ok, refused}
 use Rattle.definition.specs.Text.{Text}
 use Rattle.definition.specs.Words as W
 use Rattle.definition.specs.Words.{opened as opened₁}
-use Rattle.words.specs.Table.{table, Fitting}
 use Rattle.words.specs.declared.Words.{Words}
 use Rattle.definition.proofs.SameText.{both}
 use Rattle.fixed_names.specs.Fixed.{fixed-names, fixed}
-use Rattle.output.specs.Sink.{Room, Wrote, wrote-is}
+use Rattle.output.specs.Sink.{Wrote, wrote-is}
 use Rattle.spelling.specs.Spelled.{Spells, Appended}
-use Rattle.records.specs.Holds.{Names, Named, spelled}
-use Rattle.records.specs.Holds.{fixed as is-fixed}
-use Rattle.naming.specs.Naming.{naming, Known, Puts, Some, Alone}
+use Rattle.records.specs.Holds.{Named, spelled, fixed as is-fixed}
+use Rattle.naming.specs.Naming.{naming, Puts, Alone}
 
 no-ok : {A S : Type 0} {a : A} {s : S} {r : ℕ} → refused r ≡ ok a s → ⊥
 no-ok e = let z : _≡_ {A = ℕ} 0 1 = cc in omega arith

@@ -3,7 +3,7 @@ use mathlib.Core.Path.{_≡_}
 use mathlib.Core.List.{List, [], _∷_}
 use Prim.Native.Nat.{ℕ, zero, suc, _+_, _≤_}
 use Prim.Native.String.{String}
-use lib.ListN.{length, getD, take, drop}
+use lib.ListN.{getD, take, drop}
 use Rattle.definition.specs.Base.{Name, bytes}
 use Rattle.fixed_names.specs.Fixed.{joined}
 use Rattle.naming.specs.declared.Span.{Span}

@@ -1,22 +1,18 @@
 // The leaves of the printer: fixed texts, numbers, the names of generic parameters, and names by their numbers.
 ghost use mathlib.Core.Path.{_≡_};
-ghost use mathlib.Core.Bool.{true};
-ghost use mathlib.Core.List.{_++_};
-ghost use Prim.Native.Nat.{ℕ, _+_, _*_, _≤_, _<_, _^_};
-ghost use lib.Dec.{eqb};
-ghost use lib.ListN.{length};
-ghost use Rattle.definition.specs.Base.{Name, bytes, decimal, same};
+ghost use Prim.Native.Nat.{_+_, _*_, _<_};
+ghost use Rattle.definition.specs.Base.{Name, bytes, same};
 ghost use Rattle.definition.specs.Operators.{suspend-resume-text};
-ghost use Rattle.definition.specs.Print.{join, generic-param-name, param-letters, param-names, effects};
+ghost use Rattle.definition.specs.Print.{join, param-names, effects};
 ghost use Rattle.fixed_names.specs.Fixed.{fixed};
 ghost use Rattle.output.specs.Sink.{Room, Wrote};
-ghost use Rattle.records.specs.Lies.{at as field-of, Wide, flag};
 ghost use Rattle.records.specs.Holds.{Named};
-ghost use Rattle.naming.specs.Texts.{text-of, size, Stands, sep-before};
+ghost use Rattle.naming.specs.Texts.{text-of, Stands, sep-before};
 ghost use Rattle.naming.specs.Naming.{naming, Known, Puts, Some, Alone};
 use fixed_names::NAMES;
 use fixed_names::fixed_name;
-use output::put_byte;
+use numerals::generic_param_name;
+use numerals::put_decimal;
 use output::put_part;
 use spelling::name_is;
 use spelling::put_name;
@@ -147,52 +143,6 @@ pub fn put_sep(out: &mut [u8], at: usize, room: usize, i: usize, n: usize) -> us
         return at;
     }
     put_text(out, at, room, n)
-}
-
-// Appends the decimal digits of n.
-pub fn put_decimal(out: &mut [u8], at: usize, room: usize, n: usize) -> usize
-    requires { ⌜ Room room (now out) at ⌝ }
-    ensures { λ r. ⌜ Wrote room (now (out .entry)) (now (out .exit)) at (decimal n) r ⌝ }
-{
-    if n < 10 {
-        return put_byte(out, at, room, 48 + n as u8);
-    }
-    let r = put_decimal(out, at, room, n / 10);
-    put_byte(out, r, room, 48 + (n % 10) as u8)
-}
-
-// Appends the letters of a generic parameter's name, the least first.
-pub fn put_letters(out: &mut [u8], at: usize, room: usize, index: usize) -> usize
-    requires { ⌜ Room room (now out) at ⌝ }
-    ensures { λ r. ⌜ Wrote room (now (out .entry)) (now (out .exit)) at (param-letters (index + 1) index) r ⌝ }
-{
-    let mut n = index;
-    let mut r = at;
-    loop {
-        r = put_byte(out, r, room, 65 + (n % 26) as u8);
-        n = n / 26;
-        if n == 0 {
-            return r;
-        }
-    }
-}
-
-// Appends a generic parameter's name: its letters, then its depth if that is above 0.
-pub fn generic_param_name(
-    out: &mut [u8],
-    at: usize,
-    room: usize,
-    depth: usize,
-    index: usize,
-) -> usize
-    requires { ⌜ Room room (now out) at ⌝ }
-    ensures { λ r. ⌜ Wrote room (now (out .entry)) (now (out .exit)) at (generic-param-name depth index) r ⌝ }
-{
-    let r = put_letters(out, at, room, index);
-    if depth == 0 {
-        return r;
-    }
-    put_decimal(out, r, room, depth)
 }
 
 // Appends the names of so many generic parameters, with `, ` between them, and stops once past room.

@@ -6,8 +6,6 @@ use Rattle.naming.proofs.Lists.{stands, stands-inside}
 use borrow.Author.Needs.{needs}
 use Rattle.naming.proofs.find_text.Statement.{statement}
 use Rattle.naming.proofs.find_text.Tie as tie
-use Rattle.naming.proofs.find_text.Reads as reads
-use Rattle.naming.proofs.find_text.Lts as lts
 
 mul-t3 : tie.Need-mul-t3
 mul-t3 c = search needs

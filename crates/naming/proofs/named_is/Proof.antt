@@ -2,9 +2,6 @@
 use Rattle.naming.proofs.Numbers.{named-spells, offset-in, same-fixed}
 use Rattle.naming.proofs.named_is.Statement.{statement}
 use Rattle.naming.proofs.named_is.Tie as tie
-use Rattle.naming.proofs.named_is.Reads as reads
-use Rattle.naming.proofs.named_is.Lts as lts
-use Rattle.spelling.proofs.name_is.Reads as name-is-reads
 
 name-is-requires : tie.Need-name-is-requires
 name-is-requires c κs = (offset-in (c .before .before .before .args .text .now) (c .before .before .before .args .w) (c .if1 .taken) (c .before .before .before .pre .1 .0 .is), (c .before .before .before .pre .0 .short, c .before .before .before .pre .0 .fitting))

@@ -1,15 +1,9 @@
 -- `naming::put_effects` meets its contract. Assumes nothing.
-use mathlib.Core.Path.{ap, sym, refl, _∙_}
-use mathlib.Core.Bool.{true, false}
-use Rattle.definition.specs.Print.{effects}
 use Rattle.output.specs.Sink.{wrote-is, wrote-then, wrote-nothing}
 use Rattle.naming.proofs.Lists.{both-effects, only-async, only-throws, no-effects}
 use borrow.Author.Needs.{needs}
 use Rattle.naming.proofs.put_effects.Statement.{statement}
 use Rattle.naming.proofs.put_effects.Tie as tie
-use Rattle.naming.proofs.put_effects.Reads as reads
-use Rattle.naming.proofs.put_effects.Lts as lts
-use Rattle.naming.proofs.put_text.Reads as put-text-reads
 
 put-text-requires : tie.Need-put-text-requires
 put-text-requires c κs = search needs

@@ -6,10 +6,6 @@ use Rattle.naming.proofs.Lists.{same-part}
 use borrow.Author.Needs.{needs}
 use Rattle.naming.proofs.put_fixed.Statement.{statement}
 use Rattle.naming.proofs.put_fixed.Tie as tie
-use Rattle.naming.proofs.put_fixed.Reads as reads
-use Rattle.naming.proofs.put_fixed.Lts as lts
-use Rattle.fixed_names.proofs.fixed_name.Reads as fixed-name-reads
-use Rattle.output.proofs.put_part.Reads as put-part-reads
 
 fixed-name-requires : tie.Need-fixed-name-requires
 fixed-name-requires c κs = search needs

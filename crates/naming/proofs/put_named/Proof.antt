@@ -3,10 +3,6 @@ use Rattle.naming.proofs.Numbers.{offset-in, puts-spelled, puts-fixed}
 use borrow.Author.Needs.{needs}
 use Rattle.naming.proofs.put_named.Statement.{statement}
 use Rattle.naming.proofs.put_named.Tie as tie
-use Rattle.naming.proofs.put_named.Reads as reads
-use Rattle.naming.proofs.put_named.Lts as lts
-use Rattle.naming.proofs.put_fixed.Reads as put-fixed-reads
-use Rattle.spelling.proofs.put_name.Reads as put-name-reads
 
 put-name-requires : tie.Need-put-name-requires
 put-name-requires c κs = (c .before .before .before .before .pre .0, (offset-in (c .before .before .before .before .args .text .now) (c .before .before .before .before .args .w) (c .before .if1 .taken) (c .before .before .before .before .pre .1 .1 .is), (c .before .before .before .before .pre .1 .0 .short, c .before .before .before .before .pre .1 .0 .fitting)))

@@ -1,14 +1,9 @@
 -- `naming::put_param_names` meets its contract. Assumes nothing.
-use native.Mathlib.Omega.{arith}
 use borrow.Author.Needs.{needs}
 use Prim.Native.Nat.{_-_}
 use Rattle.naming.proofs.Lists.{Listing, listing-first, listing-next, listing-past, listing-end}
 use Rattle.naming.proofs.put_param_names.Statement.{statement}
 use Rattle.naming.proofs.put_param_names.Tie as tie
-use Rattle.naming.proofs.put_param_names.Reads as reads
-use Rattle.naming.proofs.put_param_names.Lts as lts
-use Rattle.naming.proofs.generic_param_name.Reads as generic-param-name-reads
-use Rattle.naming.proofs.put_sep.Reads as put-sep-reads
 
 abbrev Inv-loop : tie.InvT-loop
 Inv-loop out₀ at room count r₀ i₀ out r i = Listing room out₀ at count out i r

@@ -4,9 +4,6 @@ use Rattle.naming.proofs.Lists.{sep-first, sep-later}
 use borrow.Author.Needs.{needs}
 use Rattle.naming.proofs.put_sep.Statement.{statement}
 use Rattle.naming.proofs.put_sep.Tie as tie
-use Rattle.naming.proofs.put_sep.Reads as reads
-use Rattle.naming.proofs.put_sep.Lts as lts
-use Rattle.naming.proofs.put_text.Reads as put-text-reads
 
 returns : tie.Need-returns
 returns c = wrote-is (sep-first _ _ (c .if1 .taken)) (search wrote-nothing)

@@ -4,10 +4,6 @@ use Rattle.naming.proofs.Lists.{suspend-resume-is}
 use borrow.Author.Needs.{needs}
 use Rattle.naming.proofs.put_suspend_resume.Statement.{statement}
 use Rattle.naming.proofs.put_suspend_resume.Tie as tie
-use Rattle.naming.proofs.put_suspend_resume.Reads as reads
-use Rattle.naming.proofs.put_suspend_resume.Lts as lts
-use Rattle.naming.proofs.put_decimal.Reads as put-decimal-reads
-use Rattle.naming.proofs.put_text.Reads as put-text-reads
 
 put-text-requires : tie.Need-put-text-requires
 put-text-requires c κs = search needs

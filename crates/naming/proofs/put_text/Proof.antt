@@ -7,10 +7,6 @@ use Rattle.naming.proofs.Lists.{same-part}
 use borrow.Author.Needs.{needs}
 use Rattle.naming.proofs.put_text.Statement.{statement}
 use Rattle.naming.proofs.put_text.Tie as tie
-use Rattle.naming.proofs.put_text.Reads as reads
-use Rattle.naming.proofs.put_text.Lts as lts
-use Rattle.naming.proofs.find_text.Reads as find-text-reads
-use Rattle.output.proofs.put_part.Reads as put-part-reads
 
 find-text-requires : tie.Need-find-text-requires
 find-text-requires c κs = search needs

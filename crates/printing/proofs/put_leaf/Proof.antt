@@ -6,7 +6,7 @@ use Rattle.printing.proofs.put_leaf.Statement.{statement}
 use Rattle.printing.proofs.put_leaf.Tie as tie
 use Rattle.printing.proofs.put_leaf.Reads as reads
 use Rattle.printing.proofs.put_leaf.Lts as lts
-use Rattle.naming.proofs.generic_param_name.Reads as generic-param-name-reads
+use Rattle.numerals.proofs.generic_param_name.Reads as generic-param-name-reads
 use Rattle.naming.proofs.put_param_names.Reads as put-param-names-reads
 use Rattle.naming.proofs.put_suspend_resume.Reads as put-suspend-resume-reads
 use Rattle.printing.proofs.get_wide.Reads as get-wide-reads

@@ -1,16 +1,9 @@
--- `naming::put_letters` meets its contract. Assumes nothing.
-use Prim.Native.Nat.{ℕ, suc, _+_, _-_, _<_}
-use mathlib.Core.List.{List}
+-- `numerals::put_letters` meets its contract. Assumes nothing.
+use Prim.Native.Nat.{_-_}
 use native.Mathlib.Omega.{arith}
-use borrow.Author.Needs.{needs}
-use Rattle.output.specs.Sink.{Room, Wrote, wrote-is, wrote-then, Rest, rest-start, rest-then, rest-is, rest-end}
-use Rattle.definition.specs.Print.{param-letters}
-use Rattle.naming.proofs.Digits.{Lettering, lettering-first, lettering-next, lettering-last}
-use Rattle.naming.proofs.put_letters.Statement.{statement}
-use Rattle.naming.proofs.put_letters.Tie as tie
-use Rattle.naming.proofs.put_letters.Reads as reads
-use Rattle.naming.proofs.put_letters.Lts as lts
-use Rattle.output.proofs.put_byte.Reads as put-byte-reads
+use Rattle.numerals.proofs.Digits.{Lettering, lettering-first, lettering-next, lettering-last}
+use Rattle.numerals.proofs.put_letters.Statement.{statement}
+use Rattle.numerals.proofs.put_letters.Tie as tie
 
 abbrev Inv-loop : tie.InvT-loop
 Inv-loop out₀ at room index n₀ r₀ out n r = Lettering room out₀ at index out n r

@@ -1,17 +1,16 @@
--- `naming::put_decimal` meets its contract. Assumes nothing.
+-- `numerals::put_decimal` meets its contract. Assumes nothing.
 use native.Mathlib.Omega.{arith}
-use borrow.Author.Needs.{needs}
 use Rattle.output.specs.Sink.{wrote-is, wrote-then}
-use Rattle.naming.proofs.Digits.{one-digit, more-digits}
+use Rattle.numerals.proofs.Digits.{one-digit, more-digits}
 use Prim.Native.Nat.{ℕ, _<_}
 use borrow.Fn.Kinds.{In}
 use borrow.Fn.PlainCycle.{Measures, is, falls, and}
-use Rattle.naming.proofs.put_decimal.Reads as put-decimal
-use Rattle.naming.proofs.put_decimal.Kinds as put-decimal-kinds
-use Rattle.naming.proofs.+put_decimal.Lts-put_decimal as put-decimal-lts
+use Rattle.numerals.proofs.put_decimal.Reads as put-decimal
+use Rattle.numerals.proofs.put_decimal.Kinds as put-decimal-kinds
+use Rattle.numerals.proofs.+put_decimal.Lts-put_decimal as put-decimal-lts
 use Rattle.output.proofs.put_byte.Reads as put-byte-reads
-use Rattle.naming.proofs.+put_decimal.{statement}
-use Rattle.naming.proofs.+put_decimal.Tie.{close}
+use Rattle.numerals.proofs.+put_decimal.{statement}
+use Rattle.numerals.proofs.+put_decimal.Tie.{close}
 
 abbrev μ-put-decimal : Measures 1 put-decimal-kinds.ps ℕ
 μ-put-decimal κs a = a .1 .1 .1 .0

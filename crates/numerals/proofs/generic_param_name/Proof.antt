@@ -1,13 +1,9 @@
--- `naming::generic_param_name` meets its contract. Assumes nothing.
+-- `numerals::generic_param_name` meets its contract. Assumes nothing.
 use Rattle.output.specs.Sink.{wrote-is, wrote-then}
-use Rattle.naming.proofs.Digits.{at-no-depth, at-depth}
+use Rattle.numerals.proofs.Digits.{at-no-depth, at-depth}
 use borrow.Author.Needs.{needs}
-use Rattle.naming.proofs.generic_param_name.Statement.{statement}
-use Rattle.naming.proofs.generic_param_name.Tie as tie
-use Rattle.naming.proofs.generic_param_name.Reads as reads
-use Rattle.naming.proofs.generic_param_name.Lts as lts
-use Rattle.naming.proofs.put_decimal.Reads as put-decimal-reads
-use Rattle.naming.proofs.put_letters.Reads as put-letters-reads
+use Rattle.numerals.proofs.generic_param_name.Statement.{statement}
+use Rattle.numerals.proofs.generic_param_name.Tie as tie
 
 put-letters-requires : tie.Need-put-letters-requires
 put-letters-requires c κs = search needs

@@ -5,9 +5,9 @@ use mathlib.Core.List.{List, [], _∷_, _++_, append-nil}
 use Prim.Native.Nat.{ℕ, zero, suc, _+_, _-_, _/_, _%_, _≤_, _<_}
 use native.Mathlib.Omega.{arith}
 use native.Mathlib.Numerals.{add-one, sub-one}
-use borrow.Author.Tests.{lt-ltb, le-ltb, ltb-true, ltb-false, eq-eqb, ne-eqb}
-use lib.Dec.{eqb, ltb}
-use Rattle.definition.specs.Base.{Name, decimal-before, decimal, if_then_else_}
+use borrow.Author.Tests.{lt-ltb, le-ltb, ltb-false, eq-eqb, ne-eqb}
+use lib.Dec.{ltb}
+use Rattle.definition.specs.Base.{Name, decimal-before, decimal}
 use Rattle.definition.specs.Print.{param-letters, generic-param-name}
 use Rattle.output.specs.Sink.{Room, Wrote, wrote-is, Rest, rest-start, rest-then, rest-is}
 
