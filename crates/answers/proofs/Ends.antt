@@ -47,7 +47,7 @@ use Rattle.runs.specs.declared.Final.{Final}
 use Rattle.runs.specs.declared.Written.{Written}
 use Rattle.runs.specs.declared.Written.the-variants as Written
 use Rattle.printing.specs.Answers.{Shown, Rendered}
-use Rattle.printing.specs.Pieces.{World, Prints}
+use Rattle.shown_labels.specs.Pieces.{World, Prints}
 use Rattle.symbols.specs.Symbol as Symbols
 use Rattle.words.specs.declared.Words.{Words}
 use Rattle.answers.specs.Answers.{Answers, Measured, Stacked, Held, Finishes}

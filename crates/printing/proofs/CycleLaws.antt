@@ -1,37 +1,36 @@
 -- The printer's functions that call each other: from what the calls append to what the caller appends. Assumes nothing.
 use mathlib.Core.Path.{_≡_, refl, sym, ap, subst, _∙_}
-use mathlib.Core.Bool.{Bool, true, false, _&&_, _||_, not}
+use mathlib.Core.Bool.{Bool, true, false, _||_, not}
 use mathlib.Core.List.{List, [], _∷_, _++_, append-assoc, append-nil}
 use mathlib.Core.Option.{Option, some, none}
-use Prim.Native.Nat.{ℕ, zero, suc, _+_, _-_, _*_, _/_, _%_, _^_, _≤_, _<_}
+use Prim.Native.Nat.{ℕ, zero, suc, _+_, _-_, _/_, _%_, _^_, _≤_, _<_}
 use native.Mathlib.Omega.{arith}
-use native.Mathlib.Numerals.{add-one}
 use borrow.Author.Tests.{ne-eqb}
 use lib.Dec.{T, eqb}
 use lib.ListN.{length, getD}
-use Rattle.definition.specs.Base.{Name, bytes, if_then_else_}
+use Rattle.definition.specs.Base.{Name, bytes}
 use Rattle.definition.specs.Text.{Text}
 use Rattle.definition.specs.Kind as K
 use Rattle.definition.specs.Node as D
-use Rattle.definition.specs.Node.{Node, Nodes, nil, cons, Tuple, FunctionType, GenericType, EmptyList, kind, many, count, view}
-use Rattle.definition.specs.Print.{Printed, Element, join, labelled, label-at, params-from, in-parens, effects, print-tuple, print-function-type, print-generic-type, printing, elements, print, print-params}
+use Rattle.definition.specs.Node.{Node, Nodes, nil, cons, Tuple, FunctionType, GenericType, kind, many, count, view}
+use Rattle.definition.specs.Print.{join, labelled, label-at, params-from, in-parens, effects, print-tuple, print-function-type, print-generic-type, printing, elements, print, print-params}
 use Rattle.definition.proofs.PrintEquations.{params-of-other, behind-of-other, signed-of-other}
 use Rattle.words.specs.declared.Words.{Words}
-use Rattle.output.specs.Sink.{Room, Wrote, wrote-is, wrote-then, wrote-stays, Rest, rest-start, rest-then, rest-is, rest-end, rest-past}
-use Rattle.records.specs.Lies.{at, Lay, Child, flag, LabelIs, Cells, Lies, absent}
+use Rattle.output.specs.Sink.{Room, Wrote, wrote-is, wrote-then, Rest, rest-start, rest-then, rest-is, rest-end, rest-past}
+use Rattle.records.specs.Lies.{at, Child, flag, LabelIs, Cells, Lies, absent}
 use Rattle.records.specs.Holds.{Names, Named}
 use Rattle.naming.specs.Texts.{text-of, sep-before}
 use Rattle.naming.specs.Texts as X
-use Rattle.naming.specs.Naming.{naming, Known, Puts, Some}
+use Rattle.naming.specs.Naming.{Puts, Some}
 use Rattle.naming.proofs.Lists.{left, left-more, left-none}
-use Rattle.printing.specs.declared.Labels.{Labels}
+use Rattle.shown_labels.specs.declared.Labels.{Labels}
 use Rattle.printing.specs.declared.ListForm.{ListForm}
-use Rattle.printing.specs.Pieces.{World, Reach, none-at, listed, LabelsIn, SomeLabels, behind-first, NextLabels, labels-at, label-now, prefix, Labelling, own-label, own, Prints, Way, params-way, behind-way, signed-way, Printing, with-labels, Listed, Celled, leaf-text, list-field, list-sep, list-shown, list-count, Plain, Piece, Pieces, nothing, one, more}
-use Rattle.printing.specs.Answers.{Rowed}
-use Rattle.printing.proofs.ByKind.{tuple-of, function-type-of, generic-type-of, empty-list-of}
-use Rattle.printing.proofs.LabelLaws.{prefixed, shown-labels}
+use Rattle.shown_labels.specs.Pieces.{World, Reach, none-at, listed, LabelsIn, SomeLabels, behind-first, NextLabels, label-now, prefix, Labelling, own-label, own, Prints, Way, params-way, behind-way, signed-way, Printing, with-labels, Listed, Celled, leaf-text, list-field, list-sep, list-shown, list-count, Piece, Pieces, nothing, one, more}
+use Rattle.forms.specs.Forms.{Rowed}
+use Rattle.forms.proofs.ByKind.{tuple-of, function-type-of, generic-type-of, empty-list-of}
+use Rattle.shown_labels.proofs.LabelLaws.{prefixed, shown-labels}
 use Rattle.printing.proofs.LeafLaws.{list-of}
-use Rattle.printing.proofs.FormLaws.{child-below, child-holds}
+use Rattle.forms.proofs.FormLaws.{child-below, child-holds}
 
 module _ {room at₀ r : ℕ} {o o' : List ℕ} where
   pub puts-by : {A B : Name → Type 0} → ((s : Name) → B s → A s) → Puts A room o o' at₀ r → Puts B room o o' at₀ r

@@ -1,19 +1,19 @@
 -- What depends on a record's numbers alone, and the list of a code. Assumes nothing.
-use mathlib.Core.Path.{_≡_, refl, sym, ap, _∙_}
+use mathlib.Core.Path.{_≡_, sym, ap, _∙_}
 use mathlib.Core.Bool.{Bool, true, false, _&&_}
 use mathlib.Core.List.{List}
-use Prim.Native.Nat.{ℕ, _+_, _*_, _^_, _≤_, _<_}
+use Prim.Native.Nat.{ℕ, _≤_, _<_}
 use native.Mathlib.Omega.{arith}
 use borrow.Author.Tests.{eq-eqb, ne-eqb}
-use lib.Dec.{eqb, ltb}
-use Rattle.definition.specs.Base.{Name, bytes, if_then_else_}
+use lib.Dec.{eqb}
+use Rattle.definition.specs.Base.{if_then_else_}
 use Rattle.definition.specs.Kind as K
 use Rattle.definition.specs.Operators.{suspend-resume-text}
 use Rattle.definition.specs.Print.{effects, join, generic-param-name, param-names}
 use Rattle.records.specs.Lies.{at}
 use Rattle.naming.specs.Texts.{text-of}
 use Rattle.printing.specs.declared.ListForm.{ListForm}
-use Rattle.printing.specs.Pieces.{wide-at, init-name, leaf-text, list-field, list-sep, list-shown, list-count}
+use Rattle.shown_labels.specs.Pieces.{wide-at, init-name, leaf-text, list-field, list-sep, list-shown, list-count}
 
 module _ (ws : List ℕ) (p : ℕ) where
   pub effects-are : {a b : ℕ} → a ≡ at ws p 5 → b ≡ at ws p 6 → effects (eqb a 1) (eqb b 1) ≡ leaf-text ws p 24

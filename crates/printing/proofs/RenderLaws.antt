@@ -1,18 +1,18 @@
 -- The text with its suffix, measured and then written. Assumes nothing.
 use mathlib.Core.Path.{_≡_, refl, sym, ap, subst, _∙_}
-use mathlib.Core.List.{List, [], _∷_, _++_, append-assoc, append-nil}
-use Prim.Native.Nat.{ℕ, _+_, _≤_, _<_, min}
+use mathlib.Core.List.{List, [], _∷_, _++_, append-nil}
+use Prim.Native.Nat.{ℕ, _+_, _≤_, _<_}
 use native.Mathlib.Omega.{arith}
 use lib.ListN.{length, drop}
 use Rattle.definition.specs.Base.{Name, bytes}
 use Rattle.definition.specs.Text.{Text, suffix-text}
-use Rattle.output.specs.Sink.{Room, Wrote, wrote-is, wrote-then}
+use Rattle.output.specs.Sink.{Wrote, wrote-is, wrote-then}
 use Rattle.records.specs.Holds.{Names}
 use Rattle.naming.specs.Texts.{text-of}
 use Rattle.naming.specs.Texts as X
 use Rattle.naming.specs.Naming.{Puts}
-use Rattle.printing.specs.Pieces.{Prints}
-use Rattle.printing.specs.Answers.{Suffixed, Shown, Rendered}
+use Rattle.shown_labels.specs.Pieces.{Prints}
+use Rattle.printing.specs.Answers.{Suffixed, Rendered}
 
 no-suffix : (t : Text) → length t ≡ 0 → suffix-text t ≡ []
 unfolding suffix-text

@@ -1,44 +1,12 @@
 -- What the functions of this crate answer. Assumes nothing.
 use mathlib.Core.Path.{_≡_}
-use mathlib.Core.Bool.{Bool, _||_, not}
-use mathlib.Core.List.{List, [], _∷_, _++_}
+use mathlib.Core.List.{List, _++_}
 use Prim.Native.Nat.{ℕ, _+_, _≤_, _<_, min}
-use Prim.Native.String.{String}
-use lib.Dec.{T, eqb}
-use lib.ListN.{length, getD, drop}
-use Rattle.definition.specs.Base.{Name, bytes}
+use lib.ListN.{length, drop}
+use Rattle.definition.specs.Base.{Name}
 use Rattle.definition.specs.Text.{Text, suffix-text}
-use Rattle.definition.specs.Node.{Node, Nodes, BoundGeneric, many}
-use Rattle.definition.proofs.PrintEquations.{standard, sugared}
-use Rattle.records.specs.Lies.{at, Lies}
-use Rattle.records.specs.Holds.{Names, Named}
-use Rattle.printing.specs.Pieces.{Prints, Pieces, rows, form-of}
-
--- whether the base at p is the standard type of a name
-pub record Standard (nm : Names) (ws : List ℕ) (p : ℕ) (name : Name) (r : Bool) : Type 0 where
-  pub each : (b : Node) (s : String) → Lies (Named nm) b ws p → bytes s ≡ name → r ≡ standard b s
-
--- the sugar of a generic type: 0 none, 1 that of Optional, 2 of Array, 3 of Dictionary
-pub record SugarIs (b : Node) (args : Nodes) (r : ℕ) : Type 0 where
-  pub few : r < 4
-  pub no-sugar : r ≡ 0 → T (not (sugared b args))
-  pub optional : r ≡ 1 → (many args ≡ 1) × T (standard b "Optional")
-  pub array : r ≡ 2 → (many args ≡ 1) × T (standard b "Array")
-  pub dictionary : r ≡ 3 → (many args ≡ 2) × T (standard b "Dictionary")
-
-pub record Sugars (nm : Names) (ws : List ℕ) (p r : ℕ) : Type 0 where
-  pub each : (b : Node) (args : Nodes) → Lies (Named nm) (BoundGeneric b args) ws p → SugarIs b args r
-
--- the form of the record at p
-pub record FormIs (nm : Names) (ws : List ℕ) (p r : ℕ) : Type 0 where
-  pub sugar : ℕ
-  pub sugars : Sugars nm ws p sugar
-  pub is : r ≡ form-of (at ws p 0) (at ws p) (at ws (at ws p 4) 0) sugar
-  pub small : r < 46
-
--- the row of the record at p has the text of every tree that lies there
-pub record Rowed (nm : Names) (ws : List ℕ) (p row : ℕ) : Type 0 where
-  pub each : (s : Name) → Prints nm ws p s → Pieces nm ws p row s
+use Rattle.records.specs.Holds.{Names}
+use Rattle.shown_labels.specs.Pieces.{Prints}
 
 -- the text s in the slice o, which is o' then: r is its length, or one more than the slice's where it does not fit; the slice is then as it was
 pub record Shown (s : Name) (o o' : List ℕ) (r : ℕ) : Type 0 where

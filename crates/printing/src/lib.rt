@@ -1,18 +1,17 @@
 // The printer of trees that lie as records in a workspace: one set of functions measures and writes.
 // The text of a record is a row of pieces, one behind the other: fixed texts, names, children, lists and what depends on numbers in
-// it. `print` looks the row up by the record's form and appends its pieces; specs/Pieces.antt says what each code stands for.
+// it. `print` looks the row up by the record's form and appends its pieces; specs/Pieces.antt of `shown_labels` says what each
+// code stands for.
 ghost use mathlib.Core.Path.{_≡_};
 ghost use mathlib.Core.Bool.{true, false};
-ghost use Prim.Native.Nat.{ℕ, _+_, _*_, _≤_, _<_, _^_};
-ghost use lib.ListN.{length, getD};
-ghost use Rattle.definition.specs.Base.{Name, bytes};
+ghost use Prim.Native.Nat.{_+_, _*_, _≤_, _<_, _^_};
+ghost use lib.ListN.{length};
 ghost use Rattle.output.specs.Sink.{Room, Wrote};
 ghost use Rattle.records.specs.Lies.{at as field-of};
-ghost use Rattle.naming.specs.Naming.{naming, Known, Puts, Some, Alone};
-ghost use Rattle.records.specs.Holds.{Named};
-ghost use Rattle.printing.specs.Pieces.{World, Reach, SomeLabels, none-at, labels-at, NextLabels, NamedLabel, Labelling, own-label, Prints, params-way, behind-way, signed-way, Printing, Listed, Celled, wide-at, leaf-text, list-field, list-sep, list-shown, list-count, init-name, zero-or, record-form, Plain, Piece};
-ghost use Rattle.printing.specs.Answers.{Standard, Sugars, FormIs, Rowed, Suffixed, Rendered};
-use naming::named_is;
+ghost use Rattle.naming.specs.Naming.{naming, Puts, Some};
+ghost use Rattle.shown_labels.specs.Pieces.{World, Reach, Prints, params-way, behind-way, signed-way, Printing, Listed, Celled, leaf-text, list-field, list-sep, list-shown, list-count, init-name, Plain, Piece};
+ghost use Rattle.printing.specs.Answers.{Suffixed, Rendered};
+use forms::row_of;
 use naming::put_effects;
 use naming::put_named;
 use naming::put_param_names;
@@ -22,15 +21,15 @@ use naming::put_text;
 use numerals::generic_param_name;
 use output::put;
 use records::field;
-use records::wide;
+use shown_labels::Labels;
+use shown_labels::get;
+use shown_labels::get_wide;
+use shown_labels::labels_of;
+use shown_labels::next_labels;
+use shown_labels::no_labels;
+use shown_labels::own_label;
+use shown_labels::put_label;
 use words::Words;
-
-// A function's labels that are still to be used: so many cells, the first at the place in that field of the record at host.
-struct Labels {
-    host: usize,
-    field: usize,
-    left: usize,
-}
 
 // A list's cells: so many, the first at the place in that field; the text between them by its number; whether labels are shown.
 struct ListForm {
@@ -38,133 +37,6 @@ struct ListForm {
     count: usize,
     sep: usize,
     shown: bool,
-}
-
-// Field k of the record at place p.
-fn get(ws: &[u32], p: usize, k: usize) -> usize
-    requires { ⌜ (8 * p + 8 ≤ length (now ws)) × (k < 8) ⌝ }
-    ensures { λ r. ⌜ (r ≡ field-of (now (ws .entry)) p k) × (r < 2 ^ 32) ⌝ }
-{
-    wide(field(ws, p, k))
-}
-
-// The number of 64 bits in fields k and k + 1.
-fn get_wide(ws: &[u32], p: usize, k: usize) -> usize
-    requires { ⌜ (8 * p + 8 ≤ length (now ws)) × (k < 7) ⌝ }
-    ensures { λ r. ⌜ r ≡ wide-at (now (ws .entry)) p k ⌝ }
-{
-    let low = get(ws, p, k);
-    let high = get(ws, p, k + 1);
-    low + 4294967296 * high
-}
-
-// LABELS
-
-// The labels of the function or initializer at place p.
-fn labels_of(ws: &[u32], p: usize) -> Labels
-    requires { ⌜ 8 * p + 8 ≤ length (now ws) ⌝ }
-    ensures { λ r. ⌜ r ≡ labels-at (now (ws .entry)) p ⌝ }
-{
-    let n = get(ws, p, 7);
-    if n == 0 {
-        return Labels {
-            host: p,
-            field: 6,
-            left: 0,
-        };
-    }
-    Labels {
-        host: p,
-        field: 6,
-        left: n - 1,
-    }
-}
-
-// No labels; p is any place.
-fn no_labels(p: usize) -> Labels
-    ensures { λ r. ⌜ r ≡ none-at p ⌝ }
-{
-    Labels {
-        host: p,
-        field: 6,
-        left: 0,
-    }
-}
-
-// The labels behind the first.
-fn next_labels(ws: &[u32], l: Labels) -> Labels
-    requires { ⌜ SomeLabels (now ws) l ⌝ }
-    ensures { λ r. ⌜ NextLabels (now (ws .entry)) l r ⌝ }
-{
-    let left = l.left;
-    if left == 0 {
-        return l;
-    }
-    let host = l.host;
-    let k = l.field;
-    let cell = get(ws, host, k);
-    Labels {
-        host: cell,
-        field: 5,
-        left: left - 1,
-    }
-}
-
-// The label in the cell at place p, if labels are shown.
-fn own_label(ws: &[u32], p: usize, shown: bool) -> usize
-    requires { ⌜ 8 * p + 8 ≤ length (now ws) ⌝ }
-    ensures { λ r. ⌜ r ≡ own-label (now (ws .entry)) p shown ⌝ }
-{
-    if shown {
-        return get(ws, p, 3);
-    }
-    4294967295
-}
-
-// Appends a label and `: `.
-fn put_named_label(out: &mut [u8], at: usize, room: usize, text: &[u8], w: Words, k: usize) -> usize
-    requires { ⌜ Room room (now out) at ⌝ }
-    requires { ⌜ Known (now text) w ⌝ }
-    requires { ⌜ Some (Named (naming (now text) w) k) ⌝ }
-    ensures { λ r. ⌜ Puts (NamedLabel (naming (now (text .entry)) w) k) room (now (out .entry)) (now (out .exit)) at r ⌝ }
-{
-    let r = put_named(out, at, room, text, w, k);
-    put_text(out, r, room, 1)
-}
-
-// Appends the label of a parameter and `: `: the first of the labels, `_` where it is the marker, or else the parameter's own, if there is one.
-fn put_label(
-    out: &mut [u8],
-    at: usize,
-    room: usize,
-    ws: &[u32],
-    text: &[u8],
-    w: Words,
-    own: usize,
-    l: Labels,
-) -> usize
-    requires { ⌜ Room room (now out) at ⌝ }
-    requires { ⌜ Known (now text) w ⌝ }
-    requires { ⌜ Reach (now ws) l ⌝ }
-    requires { ⌜ Some (Labelling (naming (now text) w) (now ws) own l) ⌝ }
-    ensures { λ r. ⌜ Puts (Labelling (naming (now (text .entry)) w) (now (ws .entry)) own l) room (now (out .entry)) (now (out .exit)) at r ⌝ }
-{
-    let left = l.left;
-    if left == 0 {
-        if own == 4294967295 {
-            return at;
-        }
-        return put_named_label(out, at, room, text, w, own);
-    }
-    let host = l.host;
-    let at_field = l.field;
-    let cell = get(ws, host, at_field);
-    let k = get(ws, cell, 3);
-    if k == 4294967295 {
-        let r = put_text(out, at, room, 33);
-        return put_text(out, r, room, 1);
-    }
-    put_named_label(out, at, room, text, w, k)
 }
 
 // WHAT DEPENDS ON NUMBERS
@@ -284,223 +156,6 @@ fn list_form(ws: &[u32], p: usize, code: usize) -> ListForm
             }
         }
     }
-}
-
-// FORMS AND ROWS
-
-// Whether the base at place p is the standard type of a name: a nominal type of that name in a module named Swift.
-fn standard(ws: &[u32], text: &[u8], w: Words, p: usize, n: usize, name: &[u8]) -> bool
-    requires { ⌜ World (now text) w (now ws) p ⌝ }
-    requires { ⌜ Some (Prints (naming (now text) w) (now ws) p) ⌝ }
-    requires { ⌜ Alone n (now name) ⌝ }
-    ensures { λ r. ⌜ Standard (naming (now (text .entry)) w) (now (ws .entry)) p (now (name .entry)) r ⌝ }
-{
-    let kind = get(ws, p, 0);
-    if kind < 2 {
-        return false;
-    }
-    if 6 < kind {
-        return false;
-    }
-    let own = get(ws, p, 3);
-    if !named_is(text, w, own, n, name) {
-        return false;
-    }
-    let context = get(ws, p, 4);
-    let outer = get(ws, context, 0);
-    if outer != 1 {
-        return false;
-    }
-    let module = get(ws, context, 3);
-    named_is(text, w, module, 0, b"Swift")
-}
-
-// The sugar of the generic type at place p: 0 none, 1 that of Optional, 2 of Array, 3 of Dictionary.
-fn sugar(ws: &[u32], text: &[u8], w: Words, p: usize) -> usize
-    requires { ⌜ World (now text) w (now ws) p ⌝ }
-    requires { ⌜ Some (Prints (naming (now text) w) (now ws) p) ⌝ }
-    requires { ⌜ field-of (now ws) p 0 ≡ 18 ⌝ }
-    ensures { λ r. ⌜ Sugars (naming (now (text .entry)) w) (now (ws .entry)) p r ⌝ }
-{
-    let base = get(ws, p, 3);
-    let count = get(ws, p, 4);
-    if count == 1 {
-        if standard(ws, text, w, base, 28, b"Optional") {
-            return 1;
-        }
-        if standard(ws, text, w, base, 4, b"Array") {
-            return 2;
-        }
-        return 0;
-    }
-    if count == 2 {
-        if standard(ws, text, w, base, 7, b"Dictionary") {
-            return 3;
-        }
-        return 0;
-    }
-    0
-}
-
-// One number where n is 0, and another where it is not.
-fn zero_or(n: usize, zero: usize, other: usize) -> usize
-    ensures { λ r. ⌜ r ≡ zero-or n zero other ⌝ }
-{
-    if n == 0 {
-        return zero;
-    }
-    other
-}
-
-// The form of a record whose words are fixed, have a number, or are of two children.
-fn record_form(form: usize) -> usize
-    ensures { λ r. ⌜ r ≡ record-form form ⌝ }
-{
-    if form == 0 {
-        return 26;
-    }
-    if form < 4 {
-        return 35 + form;
-    }
-    39
-}
-
-// The form of the record at place p: its kind, or a number above the kinds.
-fn form(ws: &[u32], text: &[u8], w: Words, p: usize) -> usize
-    requires { ⌜ World (now text) w (now ws) p ⌝ }
-    requires { ⌜ Some (Prints (naming (now text) w) (now ws) p) ⌝ }
-    ensures { λ r. ⌜ FormIs (naming (now (text .entry)) w) (now (ws .entry)) p r ⌝ }
-{
-    let kind = get(ws, p, 0);
-    if kind == 12 {
-        let requirements = get(ws, p, 5);
-        return zero_or(requirements, 12, 40);
-    }
-    if kind == 15 {
-        let members = get(ws, p, 2);
-        return zero_or(members, 15, 41);
-    }
-    if kind == 18 {
-        let s = sugar(ws, text, w, p);
-        return zero_or(s, 18, 41 + s);
-    }
-    if kind == 21 {
-        let variable = get(ws, p, 4);
-        let below = get(ws, variable, 0);
-        if below == 20 {
-            return 45;
-        }
-        return 21;
-    }
-    if kind == 23 {
-        let deallocating = get(ws, p, 3);
-        return zero_or(deallocating, 23, 35);
-    }
-    if kind == 26 {
-        let words = get(ws, p, 3);
-        return record_form(words);
-    }
-    kind
-}
-
-// The rows by form. Each two hexadecimal digits are a piece's code, the first the last two: 0b to 0f a name, 13 to 17 a child, 18 to 29 what
-// specs/Pieces.antt says, from 40 on a fixed text, from 80 on a piece of the record in field 4.
-const ROWS: [usize; 46] = [
-    // Identifier
-    0xb,
-    // Module
-    0xb,
-    // Nominal, of five kinds
-    0xb4014,
-    0xb4014,
-    0xb4014,
-    0xb4014,
-    0xb4014,
-    // GenericParam
-    0x1a,
-    // DependentMember
-    0xb4014,
-    // Tuple
-    0x472046,
-    // FunctionType
-    0x145a1829,
-    // GenericType
-    0x1413,
-    // GenericSignature with no requirements
-    0x491948,
-    // ConformanceRequirement
-    0x144113,
-    // SameTypeRequirement
-    0x144313,
-    // ProtocolList with no members
-    0x59,
-    // Metatype
-    0x4e13,
-    // InOut
-    0x134f,
-    // BoundGeneric without sugar
-    0x49244813,
-    // Function
-    0x280b4014,
-    // Variable
-    0x15420b4014,
-    // Accessor of no variable
-    0xb4014,
-    // Initializer
-    0x281b4014,
-    // Deinitializer
-    0x604014,
-    // VariableInitializer
-    0x1350,
-    // Static
-    0x1351,
-    // Record with fixed words
-    0x140d,
-    // Conformance
-    0x1552144213,
-    // ProtocolWitness
-    0x14541353,
-    // ValueWitness
-    0x14550b,
-    // EmptyList
-    0x58,
-    // the four markers
-    0,
-    0,
-    0,
-    0,
-    // Deinitializer that deallocates
-    0x5f4014,
-    // LazyWitness
-    0x1656150c,
-    // AssociatedConformance with no qualifier
-    0x17410c401557,
-    // Record with a number in its words
-    0x141c,
-    // AssociatedConformance with a qualifier
-    0x17410c4023401557,
-    // GenericSignature with requirements
-    0x49224d1948,
-    // ProtocolList with members
-    0x21,
-    // Optional
-    0x4c24,
-    // Array
-    0x4b244a,
-    // Dictionary
-    0x4b254a,
-    // Accessor of a variable
-    0x95420b408b4094,
-];
-
-// The row of the record at place p.
-fn row_of(ws: &[u32], text: &[u8], w: Words, p: usize) -> usize
-    requires { ⌜ World (now text) w (now ws) p ⌝ }
-    requires { ⌜ Some (Prints (naming (now text) w) (now ws) p) ⌝ }
-    ensures { λ r. ⌜ Rowed (naming (now (text .entry)) w) (now (ws .entry)) p r ⌝ }
-{
-    let f = form(ws, text, w, p);
-    ROWS[f]
 }
 
 // THE PRINTER

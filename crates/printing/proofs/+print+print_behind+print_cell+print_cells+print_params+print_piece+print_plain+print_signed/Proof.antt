@@ -9,43 +9,22 @@ mod PrintPiece
 mod PrintPlain
 mod PrintSigned
 use Rattle.printing.proofs.print.Reads as print
-use Rattle.printing.proofs.print.Kinds as print-kinds
 use Rattle.printing.proofs.+print+print_behind+print_cell+print_cells+print_params+print_piece+print_plain+print_signed.Lts-print as print-lts
 use Rattle.printing.proofs.print_behind.Reads as print-behind
-use Rattle.printing.proofs.print_behind.Kinds as print-behind-kinds
 use Rattle.printing.proofs.+print+print_behind+print_cell+print_cells+print_params+print_piece+print_plain+print_signed.Lts-print_behind as print-behind-lts
 use Rattle.printing.proofs.print_cell.Reads as print-cell
-use Rattle.printing.proofs.print_cell.Kinds as print-cell-kinds
 use Rattle.printing.proofs.+print+print_behind+print_cell+print_cells+print_params+print_piece+print_plain+print_signed.Lts-print_cell as print-cell-lts
 use Rattle.printing.proofs.print_cells.Reads as print-cells
-use Rattle.printing.proofs.print_cells.Kinds as print-cells-kinds
 use Rattle.printing.proofs.+print+print_behind+print_cell+print_cells+print_params+print_piece+print_plain+print_signed.Lts-print_cells as print-cells-lts
 use Rattle.printing.proofs.print_params.Reads as print-params
-use Rattle.printing.proofs.print_params.Kinds as print-params-kinds
 use Rattle.printing.proofs.+print+print_behind+print_cell+print_cells+print_params+print_piece+print_plain+print_signed.Lts-print_params as print-params-lts
 use Rattle.printing.proofs.print_piece.Reads as print-piece
-use Rattle.printing.proofs.print_piece.Kinds as print-piece-kinds
 use Rattle.printing.proofs.+print+print_behind+print_cell+print_cells+print_params+print_piece+print_plain+print_signed.Lts-print_piece as print-piece-lts
 use Rattle.printing.proofs.print_plain.Reads as print-plain
-use Rattle.printing.proofs.print_plain.Kinds as print-plain-kinds
 use Rattle.printing.proofs.+print+print_behind+print_cell+print_cells+print_params+print_piece+print_plain+print_signed.Lts-print_plain as print-plain-lts
 use Rattle.printing.proofs.print_signed.Reads as print-signed
-use Rattle.printing.proofs.print_signed.Kinds as print-signed-kinds
 use Rattle.printing.proofs.+print+print_behind+print_cell+print_cells+print_params+print_piece+print_plain+print_signed.Lts-print_signed as print-signed-lts
-use Rattle.naming.proofs.put_named.Reads as put-named-reads
-use Rattle.naming.proofs.put_sep.Reads as put-sep-reads
-use Rattle.naming.proofs.put_text.Reads as put-text-reads
-use Rattle.printing.proofs.get.Reads as get-reads
-use Rattle.printing.proofs.labels_of.Reads as labels-of-reads
-use Rattle.printing.proofs.list_form.Reads as list-form-reads
-use Rattle.printing.proofs.next_labels.Reads as next-labels-reads
-use Rattle.printing.proofs.no_labels.Reads as no-labels-reads
-use Rattle.printing.proofs.own_label.Reads as own-label-reads
-use Rattle.printing.proofs.put_effects_of.Reads as put-effects-of-reads
-use Rattle.printing.proofs.put_label.Reads as put-label-reads
-use Rattle.printing.proofs.put_leaf.Reads as put-leaf-reads
-use Rattle.printing.proofs.row_of.Reads as row-of-reads
-use Rattle.printing.proofs.+print+print_behind+print_cell+print_cells+print_params+print_piece+print_plain+print_signed.Proof.Base.{μ-print, μ-print-behind, μ-print-cell, μ-print-cells, μ-print-params, μ-print-piece, μ-print-plain, μ-print-signed, print-at, print-below, print-behind-at, print-behind-below, print-cell-at, print-cell-below, print-cells-at, print-cells-below, print-params-at, print-params-below, print-piece-at, print-piece-below, print-plain-at, print-plain-below, print-signed-at, print-signed-below, print-claims, print-behind-claims, print-cell-claims, print-cells-claims, print-params-claims, print-piece-claims, print-plain-claims, print-signed-claims}
+use Rattle.printing.proofs.+print+print_behind+print_cell+print_cells+print_params+print_piece+print_plain+print_signed.Proof.Base.{μ-print, μ-print-behind, μ-print-cell, μ-print-cells, μ-print-params, μ-print-piece, μ-print-plain, μ-print-signed, print-at, print-behind-at, print-cell-at, print-cells-at, print-params-at, print-piece-at, print-plain-at, print-signed-at, print-claims, print-behind-claims, print-cell-claims, print-cells-claims, print-params-claims, print-piece-claims, print-plain-claims, print-signed-claims}
 use Rattle.printing.proofs.+print+print_behind+print_cell+print_cells+print_params+print_piece+print_plain+print_signed.Proof.Print.{print-Inv-loop, print-μ-loop, print-row-of-requires, print-loop-holds, print-same-length, print-returns, print-print-piece-requires, print-loop-less, print-loop-again, print-same-length-2, print-returns-2}
 use Rattle.printing.proofs.+print+print_behind+print_cell+print_cells+print_params+print_piece+print_plain+print_signed.Proof.PrintBehind.{print-behind-get-requires, print-behind-get-requires-2, print-behind-get-requires-3, print-behind-print-params-requires, print-behind-put-effects-of-requires, print-behind-put-text-requires, print-behind-print-requires, print-behind-same-length, print-behind-returns, print-behind-put-text-requires-2, print-behind-print-requires-2, print-behind-same-length-2, print-behind-returns-2}
 use Rattle.printing.proofs.+print+print_behind+print_cell+print_cells+print_params+print_piece+print_plain+print_signed.Proof.PrintCell.{print-cell-put-sep-requires, print-cell-own-label-requires, print-cell-put-label-requires, print-cell-get-requires, print-cell-print-requires, print-cell-same-length, print-cell-returns}

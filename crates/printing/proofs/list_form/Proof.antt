@@ -1,13 +1,9 @@
 -- `printing::list_form` meets its contract. Assumes nothing.
 use native.Mathlib.Omega.{arith}
-use mathlib.Core.Path.{_≡_}
 use Rattle.printing.proofs.LeafLaws.{list-32, list-33, list-34, list-35, list-36, list-37, last-code}
 use borrow.Author.Needs.{needs}
 use Rattle.printing.proofs.list_form.Statement.{statement}
 use Rattle.printing.proofs.list_form.Tie as tie
-use Rattle.printing.proofs.list_form.Reads as reads
-use Rattle.printing.proofs.list_form.Lts as lts
-use Rattle.printing.proofs.get.Reads as get-reads
 
 get-requires : tie.Need-get-requires
 get-requires c κs = search needs

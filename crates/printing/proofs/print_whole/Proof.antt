@@ -3,11 +3,6 @@ use Rattle.printing.proofs.RenderLaws.{whole-alone, whole-suffixed}
 use borrow.Author.Needs.{needs}
 use Rattle.printing.proofs.print_whole.Statement.{statement}
 use Rattle.printing.proofs.print_whole.Tie as tie
-use Rattle.printing.proofs.print_whole.Reads as reads
-use Rattle.printing.proofs.print_whole.Lts as lts
-use Rattle.naming.proofs.put_text.Reads as put-text-reads
-use Rattle.output.proofs.put.Reads as put-reads
-use Rattle.printing.proofs.print.Reads as print-reads
 
 print-requires : tie.Need-print-requires
 print-requires c κs = search needs

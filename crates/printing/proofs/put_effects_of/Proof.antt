@@ -4,10 +4,6 @@ use Rattle.printing.proofs.LeafLaws.{effects-are}
 use borrow.Author.Needs.{needs}
 use Rattle.printing.proofs.put_effects_of.Statement.{statement}
 use Rattle.printing.proofs.put_effects_of.Tie as tie
-use Rattle.printing.proofs.put_effects_of.Reads as reads
-use Rattle.printing.proofs.put_effects_of.Lts as lts
-use Rattle.naming.proofs.put_effects.Reads as put-effects-reads
-use Rattle.printing.proofs.get.Reads as get-reads
 
 get-requires : tie.Need-get-requires
 get-requires c κs = search needs

@@ -4,10 +4,6 @@ use Rattle.printing.proofs.LeafLaws.{init-plain, init-other, init-class
 use borrow.Author.Needs.{needs}
 use Rattle.printing.proofs.put_init_name.Statement.{statement}
 use Rattle.printing.proofs.put_init_name.Tie as tie
-use Rattle.printing.proofs.put_init_name.Reads as reads
-use Rattle.printing.proofs.put_init_name.Lts as lts
-use Rattle.naming.proofs.put_text.Reads as put-text-reads
-use Rattle.printing.proofs.get.Reads as get-reads
 
 get-requires : tie.Need-get-requires
 get-requires c κs = search needs

@@ -4,14 +4,6 @@ use Rattle.printing.proofs.LeafLaws.{leaf-at, leaf-params, leaf-param, 
 use borrow.Author.Needs.{needs}
 use Rattle.printing.proofs.put_leaf.Statement.{statement}
 use Rattle.printing.proofs.put_leaf.Tie as tie
-use Rattle.printing.proofs.put_leaf.Reads as reads
-use Rattle.printing.proofs.put_leaf.Lts as lts
-use Rattle.numerals.proofs.generic_param_name.Reads as generic-param-name-reads
-use Rattle.naming.proofs.put_param_names.Reads as put-param-names-reads
-use Rattle.naming.proofs.put_suspend_resume.Reads as put-suspend-resume-reads
-use Rattle.printing.proofs.get_wide.Reads as get-wide-reads
-use Rattle.printing.proofs.put_effects_of.Reads as put-effects-of-reads
-use Rattle.printing.proofs.put_init_name.Reads as put-init-name-reads
 
 put-effects-of-requires : tie.Need-put-effects-of-requires
 put-effects-of-requires c κs = search needs

@@ -3,9 +3,6 @@ use Rattle.printing.proofs.RenderLaws.{rendered-out, rendered-in}
 use borrow.Author.Needs.{needs}
 use Rattle.printing.proofs.render.Statement.{statement}
 use Rattle.printing.proofs.render.Tie as tie
-use Rattle.printing.proofs.render.Reads as reads
-use Rattle.printing.proofs.render.Lts as lts
-use Rattle.printing.proofs.print_whole.Reads as print-whole-reads
 
 slice-relend-prefix-print-whole : tie.Need-slice-relend-prefix-print-whole
 slice-relend-prefix-print-whole c = search needs

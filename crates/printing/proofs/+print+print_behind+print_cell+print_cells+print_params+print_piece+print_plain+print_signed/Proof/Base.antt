@@ -29,16 +29,16 @@ use Rattle.printing.proofs.+print+print_behind+print_cell+print_cells+p
 use Rattle.naming.proofs.put_named.Reads as put-named-reads
 use Rattle.naming.proofs.put_sep.Reads as put-sep-reads
 use Rattle.naming.proofs.put_text.Reads as put-text-reads
-use Rattle.printing.proofs.get.Reads as get-reads
-use Rattle.printing.proofs.labels_of.Reads as labels-of-reads
+use Rattle.shown_labels.proofs.get.Reads as get-reads
+use Rattle.shown_labels.proofs.labels_of.Reads as labels-of-reads
 use Rattle.printing.proofs.list_form.Reads as list-form-reads
-use Rattle.printing.proofs.next_labels.Reads as next-labels-reads
-use Rattle.printing.proofs.no_labels.Reads as no-labels-reads
-use Rattle.printing.proofs.own_label.Reads as own-label-reads
+use Rattle.shown_labels.proofs.next_labels.Reads as next-labels-reads
+use Rattle.shown_labels.proofs.no_labels.Reads as no-labels-reads
+use Rattle.shown_labels.proofs.own_label.Reads as own-label-reads
 use Rattle.printing.proofs.put_effects_of.Reads as put-effects-of-reads
-use Rattle.printing.proofs.put_label.Reads as put-label-reads
+use Rattle.shown_labels.proofs.put_label.Reads as put-label-reads
 use Rattle.printing.proofs.put_leaf.Reads as put-leaf-reads
-use Rattle.printing.proofs.row_of.Reads as row-of-reads
+use Rattle.forms.proofs.row_of.Reads as row-of-reads
 
 abbrev pub μ-print : Measures 3 print-kinds.ps ℕ
 μ-print κs a = 8 * a .1 .1 .1 .1 .1 .1 .0 + 5

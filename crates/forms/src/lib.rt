@@ -1,0 +1,227 @@
+// The form of a record, with its sugar, and the row of pieces that it prints.
+ghost use mathlib.Core.Path.{_≡_};
+ghost use mathlib.Core.Bool.{false};
+ghost use Prim.Native.Nat.{_+_, _<_};
+ghost use Rattle.records.specs.Lies.{at as field-of};
+ghost use Rattle.naming.specs.Naming.{naming, Some, Alone};
+ghost use Rattle.shown_labels.specs.Pieces.{World, Prints, zero-or, record-form};
+ghost use Rattle.forms.specs.Forms.{Standard, Sugars, FormIs, Rowed};
+use naming::named_is;
+use records::field;
+use shown_labels::get;
+use words::Words;
+
+// Whether the base at place p is the standard type of a name: a nominal type of that name in a module named Swift.
+fn standard(ws: &[u32], text: &[u8], w: Words, p: usize, n: usize, name: &[u8]) -> bool
+    requires { ⌜ World (now text) w (now ws) p ⌝ }
+    requires { ⌜ Some (Prints (naming (now text) w) (now ws) p) ⌝ }
+    requires { ⌜ Alone n (now name) ⌝ }
+    ensures { λ r. ⌜ Standard (naming (now (text .entry)) w) (now (ws .entry)) p (now (name .entry)) r ⌝ }
+{
+    let kind = get(ws, p, 0);
+    if kind < 2 {
+        return false;
+    }
+    if 6 < kind {
+        return false;
+    }
+    let own = get(ws, p, 3);
+    if !named_is(text, w, own, n, name) {
+        return false;
+    }
+    let context = get(ws, p, 4);
+    let outer = get(ws, context, 0);
+    if outer != 1 {
+        return false;
+    }
+    let module = get(ws, context, 3);
+    named_is(text, w, module, 0, b"Swift")
+}
+
+// The sugar of the generic type at place p: 0 none, 1 that of Optional, 2 of Array, 3 of Dictionary.
+fn sugar(ws: &[u32], text: &[u8], w: Words, p: usize) -> usize
+    requires { ⌜ World (now text) w (now ws) p ⌝ }
+    requires { ⌜ Some (Prints (naming (now text) w) (now ws) p) ⌝ }
+    requires { ⌜ field-of (now ws) p 0 ≡ 18 ⌝ }
+    ensures { λ r. ⌜ Sugars (naming (now (text .entry)) w) (now (ws .entry)) p r ⌝ }
+{
+    let base = get(ws, p, 3);
+    let count = get(ws, p, 4);
+    if count == 1 {
+        if standard(ws, text, w, base, 28, b"Optional") {
+            return 1;
+        }
+        if standard(ws, text, w, base, 4, b"Array") {
+            return 2;
+        }
+        return 0;
+    }
+    if count == 2 {
+        if standard(ws, text, w, base, 7, b"Dictionary") {
+            return 3;
+        }
+        return 0;
+    }
+    0
+}
+
+// One number where n is 0, and another where it is not.
+fn zero_or(n: usize, zero: usize, other: usize) -> usize
+    ensures { λ r. ⌜ r ≡ zero-or n zero other ⌝ }
+{
+    if n == 0 {
+        return zero;
+    }
+    other
+}
+
+// The form of a record whose words are fixed, have a number, or are of two children.
+fn record_form(form: usize) -> usize
+    ensures { λ r. ⌜ r ≡ record-form form ⌝ }
+{
+    if form == 0 {
+        return 26;
+    }
+    if form < 4 {
+        return 35 + form;
+    }
+    39
+}
+
+// The form of the record at place p: its kind, or a number above the kinds.
+fn form(ws: &[u32], text: &[u8], w: Words, p: usize) -> usize
+    requires { ⌜ World (now text) w (now ws) p ⌝ }
+    requires { ⌜ Some (Prints (naming (now text) w) (now ws) p) ⌝ }
+    ensures { λ r. ⌜ FormIs (naming (now (text .entry)) w) (now (ws .entry)) p r ⌝ }
+{
+    let kind = get(ws, p, 0);
+    if kind == 12 {
+        let requirements = get(ws, p, 5);
+        return zero_or(requirements, 12, 40);
+    }
+    if kind == 15 {
+        let members = get(ws, p, 2);
+        return zero_or(members, 15, 41);
+    }
+    if kind == 18 {
+        let s = sugar(ws, text, w, p);
+        return zero_or(s, 18, 41 + s);
+    }
+    if kind == 21 {
+        let variable = get(ws, p, 4);
+        let below = get(ws, variable, 0);
+        if below == 20 {
+            return 45;
+        }
+        return 21;
+    }
+    if kind == 23 {
+        let deallocating = get(ws, p, 3);
+        return zero_or(deallocating, 23, 35);
+    }
+    if kind == 26 {
+        let words = get(ws, p, 3);
+        return record_form(words);
+    }
+    kind
+}
+
+// The rows by form. Each two hexadecimal digits are a piece's code, the first the last two: 0b to 0f a name, 13 to 17 a child, 18 to 29 what
+// specs/Pieces.antt of `shown_labels` says, from 40 on a fixed text, from 80 on a piece of the record in field 4.
+const ROWS: [usize; 46] = [
+    // Identifier
+    0xb,
+    // Module
+    0xb,
+    // Nominal, of five kinds
+    0xb4014,
+    0xb4014,
+    0xb4014,
+    0xb4014,
+    0xb4014,
+    // GenericParam
+    0x1a,
+    // DependentMember
+    0xb4014,
+    // Tuple
+    0x472046,
+    // FunctionType
+    0x145a1829,
+    // GenericType
+    0x1413,
+    // GenericSignature with no requirements
+    0x491948,
+    // ConformanceRequirement
+    0x144113,
+    // SameTypeRequirement
+    0x144313,
+    // ProtocolList with no members
+    0x59,
+    // Metatype
+    0x4e13,
+    // InOut
+    0x134f,
+    // BoundGeneric without sugar
+    0x49244813,
+    // Function
+    0x280b4014,
+    // Variable
+    0x15420b4014,
+    // Accessor of no variable
+    0xb4014,
+    // Initializer
+    0x281b4014,
+    // Deinitializer
+    0x604014,
+    // VariableInitializer
+    0x1350,
+    // Static
+    0x1351,
+    // Record with fixed words
+    0x140d,
+    // Conformance
+    0x1552144213,
+    // ProtocolWitness
+    0x14541353,
+    // ValueWitness
+    0x14550b,
+    // EmptyList
+    0x58,
+    // the four markers
+    0,
+    0,
+    0,
+    0,
+    // Deinitializer that deallocates
+    0x5f4014,
+    // LazyWitness
+    0x1656150c,
+    // AssociatedConformance with no qualifier
+    0x17410c401557,
+    // Record with a number in its words
+    0x141c,
+    // AssociatedConformance with a qualifier
+    0x17410c4023401557,
+    // GenericSignature with requirements
+    0x49224d1948,
+    // ProtocolList with members
+    0x21,
+    // Optional
+    0x4c24,
+    // Array
+    0x4b244a,
+    // Dictionary
+    0x4b254a,
+    // Accessor of a variable
+    0x95420b408b4094,
+];
+
+// The row of the record at place p.
+pub fn row_of(ws: &[u32], text: &[u8], w: Words, p: usize) -> usize
+    requires { ⌜ World (now text) w (now ws) p ⌝ }
+    requires { ⌜ Some (Prints (naming (now text) w) (now ws) p) ⌝ }
+    ensures { λ r. ⌜ Rowed (naming (now (text .entry)) w) (now (ws .entry)) p r ⌝ }
+{
+    let f = form(ws, text, w, p);
+    ROWS[f]
+}
