@@ -62,7 +62,9 @@ fn usage() -> ! {
 
 /// A text with bytes as `\xNN`.
 fn escaped(text: &[u8]) -> String {
-    text.iter().map(|&b| if b.is_ascii_graphic() && b != b'\\' || b == b' ' { (b as char).to_string() } else { format!("\\x{b:02x}") }).collect()
+    text.iter()
+        .map(|&b| if b.is_ascii_graphic() && b != b'\\' || b == b' ' { (b as char).to_string() } else { format!("\\x{b:02x}") })
+        .collect()
 }
 
 fn unescaped(text: &str) -> Vec<u8> {
@@ -252,14 +254,27 @@ fn summary(shared: &Shared, operators: &[String], total: usize, died: u64, slow:
     let c = &shared.counts;
     let get = |n: &std::sync::atomic::AtomicU64| n.load(Relaxed);
     println!("{} texts, no difference; {} calls of ours, {:.0} s", get(&c.done), get(&c.calls), begun.elapsed().as_secs_f64());
-    println!("the Rust reads {}, gives none for {}, was not asked about {} that are no UTF-8", get(&c.read_by_rust), get(&c.none_by_rust), get(&c.not_asked));
-    println!("the Rust fails: it panics on {}, runs out of memory or stack on {died}, is not done after {MOST_SECONDS} s on {slow}", get(&c.panicked));
+    println!(
+        "the Rust reads {}, gives none for {}, was not asked about {} that are no UTF-8",
+        get(&c.read_by_rust),
+        get(&c.none_by_rust),
+        get(&c.not_asked)
+    );
+    println!(
+        "the Rust fails: it panics on {}, runs out of memory or stack on {died}, is not done after {MOST_SECONDS} s on {slow}",
+        get(&c.panicked)
+    );
     let numbers: Vec<String> = c.numbers.iter().enumerate().map(|(i, n)| format!("{i}: {}", get(n))).collect();
     println!("our numbers at N = 65,536: {}", numbers.join(", "));
     let mut seen: Vec<(u64, &String)> = c.operators.iter().map(get).zip(operators).collect();
     seen.sort();
     let none: Vec<&String> = seen.iter().filter(|(n, _)| *n == 0).map(|(_, o)| *o).collect();
-    println!("operators in an eighth of the names read: {} of {}; fewest: {}", operators.len() - none.len(), operators.len(), seen.iter().take(6).map(|(n, o)| format!("{o} {n}")).collect::<Vec<_>>().join(", "));
+    println!(
+        "operators in an eighth of the names read: {} of {}; fewest: {}",
+        operators.len() - none.len(),
+        operators.len(),
+        seen.iter().take(6).map(|(n, o)| format!("{o} {n}")).collect::<Vec<_>>().join(", ")
+    );
     assert_eq!(get(&c.done) as usize, total, "texts were left out");
     if total > 1_000_000 {
         assert!(none.is_empty(), "operators that no name read has: {none:?}");

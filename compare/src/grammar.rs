@@ -70,33 +70,150 @@ pub fn letters_of(letters: &str) -> String {
 }
 
 const MODULES: [&str; 12] = [
-    "main", "sample", "AppCore", "NetworkKit", "PhotoEditor", "Combine", "SwiftUI", "Foundation", "FeatureFlags", "PaymentsUI", "Storage",
+    "main",
+    "sample",
+    "AppCore",
+    "NetworkKit",
+    "PhotoEditor",
+    "Combine",
+    "SwiftUI",
+    "Foundation",
+    "FeatureFlags",
+    "PaymentsUI",
+    "Storage",
     "Logging",
 ];
 const WORDS: [&str; 72] = [
-    "Account", "Action", "Address", "Asset", "Badge", "Batch", "Bridge", "Buffer", "Button", "Cache", "Camera", "Card", "Cell", "Chart",
-    "Client", "Cloud", "Code", "Collection", "Config", "Content", "Context", "Controller", "Coordinator", "Cursor", "Data", "Date",
-    "Decoder", "Delegate", "Detail", "Device", "Document", "Editor", "Element", "Error", "Event", "Factory", "Feed", "Field", "File",
-    "Filter", "Frame", "Group", "HTTP", "Handler", "Header", "Image", "Index", "Item", "JSON", "Key", "Layer", "Layout", "List", "Loader",
-    "Manager", "Map", "Message", "Model", "Node", "Observer", "Options", "Page", "Parser", "Player", "Point", "Provider", "Queue",
-    "Request", "Response", "Result", "Row", "Session",
+    "Account",
+    "Action",
+    "Address",
+    "Asset",
+    "Badge",
+    "Batch",
+    "Bridge",
+    "Buffer",
+    "Button",
+    "Cache",
+    "Camera",
+    "Card",
+    "Cell",
+    "Chart",
+    "Client",
+    "Cloud",
+    "Code",
+    "Collection",
+    "Config",
+    "Content",
+    "Context",
+    "Controller",
+    "Coordinator",
+    "Cursor",
+    "Data",
+    "Date",
+    "Decoder",
+    "Delegate",
+    "Detail",
+    "Device",
+    "Document",
+    "Editor",
+    "Element",
+    "Error",
+    "Event",
+    "Factory",
+    "Feed",
+    "Field",
+    "File",
+    "Filter",
+    "Frame",
+    "Group",
+    "HTTP",
+    "Handler",
+    "Header",
+    "Image",
+    "Index",
+    "Item",
+    "JSON",
+    "Key",
+    "Layer",
+    "Layout",
+    "List",
+    "Loader",
+    "Manager",
+    "Map",
+    "Message",
+    "Model",
+    "Node",
+    "Observer",
+    "Options",
+    "Page",
+    "Parser",
+    "Player",
+    "Point",
+    "Provider",
+    "Queue",
+    "Request",
+    "Response",
+    "Result",
+    "Row",
+    "Session",
 ];
 const MORE: [&str; 24] = [
-    "Set", "Settings", "Shape", "State", "Status", "Store", "Stream", "String", "Style", "Table", "Task", "Text", "Theme", "Timer", "Token",
-    "Tree", "URL", "User", "Value", "Video", "View", "Window", "Wrapper", "Zone",
+    "Set", "Settings", "Shape", "State", "Status", "Store", "Stream", "String", "Style", "Table", "Task", "Text", "Theme", "Timer",
+    "Token", "Tree", "URL", "User", "Value", "Video", "View", "Window", "Wrapper", "Zone",
 ];
 const VERBS: [&str; 26] = [
-    "add", "append", "apply", "begin", "cancel", "change", "compute", "configure", "decode", "did", "encode", "fetch", "handle", "insert",
-    "load", "make", "perform", "prepare", "reload", "remove", "render", "reset", "save", "set", "update", "validate",
+    "add",
+    "append",
+    "apply",
+    "begin",
+    "cancel",
+    "change",
+    "compute",
+    "configure",
+    "decode",
+    "did",
+    "encode",
+    "fetch",
+    "handle",
+    "insert",
+    "load",
+    "make",
+    "perform",
+    "prepare",
+    "reload",
+    "remove",
+    "render",
+    "reset",
+    "save",
+    "set",
+    "update",
+    "validate",
 ];
 const LABELS: [&str; 20] = [
-    "with", "for", "at", "in", "of", "to", "from", "using", "by", "on", "animated", "completion", "index", "value", "key", "options", "type",
-    "into", "animation", "error",
+    "with",
+    "for",
+    "at",
+    "in",
+    "of",
+    "to",
+    "from",
+    "using",
+    "by",
+    "on",
+    "animated",
+    "completion",
+    "index",
+    "value",
+    "key",
+    "options",
+    "type",
+    "into",
+    "animation",
+    "error",
 ];
 /// Names that take every path of words: one letter, one word of capitals, digits, bars, characters of two and three bytes.
-const ODD: [&str; 16] = [
-    "a", "x", "id", "HTTPServer", "URLSession", "_impl", "a_b", "ab_cd", "foo2Bar", "v2", "_0", "café", "Ωmega", "x€y", "ABC", "aB",
-];
+const ODD: [&str; 16] =
+    ["a", "x", "id", "HTTPServer", "URLSession", "_impl", "a_b", "ab_cd", "foo2Bar", "v2", "_0", "café", "Ωmega", "x€y", "ABC", "aB"];
 const CODED: [&str; 6] = ["caf_dma", "mega_gdc", "abcd", "_aeao", "gre_Kva", "tst_boa"];
 
 pub struct Grammar {
@@ -384,7 +501,11 @@ impl Grammar {
             return self.small_type();
         }
         let inner = depth - 1;
-        match self.r.weighted(if self.wide() { &[6, 10, 10, 8, 10, 10, 10, 4, 6, 6, 5, 4] } else { &[34, 16, 12, 6, 5, 6, 5, 1, 1, 1, 0, 0] }) {
+        match self.r.weighted(if self.wide() {
+            &[6, 10, 10, 8, 10, 10, 10, 4, 6, 6, 5, 4]
+        } else {
+            &[34, 16, 12, 6, 5, 6, 5, 1, 1, 1, 0, 0]
+        }) {
             0 => self.small_type(),
             1 => {
                 let t = self.ty(inner);
@@ -567,59 +688,61 @@ impl Grammar {
     fn requirement(&mut self) -> Tree {
         let at = self.index_of_param();
         let mut parts = Vec::new();
-        let letters = match self.r.weighted(if self.wide() { &[4, 3, 3, 3, 3, 3, 3, 3, 3, 3, 3, 3] } else { &[10, 1, 0, 1, 0, 0, 2, 1, 2, 0, 0, 0] }) {
-            0 => {
-                parts.extend(self.protocol());
-                format!("R{at}")
-            }
-            1 => {
-                parts.extend(self.protocol());
-                parts.extend(self.associated());
-                format!("Rp{at}")
-            }
-            2 => {
-                parts.extend(self.protocol());
-                parts.push(self.ty(1));
-                "RQ".to_string()
-            }
-            3 => {
-                parts.push(self.class());
-                format!("Rb{at}")
-            }
-            4 => {
-                parts.push(self.class());
-                parts.push(self.ty(1));
-                "RB".to_string()
-            }
-            5 => {
-                parts.push(self.class());
-                parts.extend(self.associated());
-                format!("Rc{at}")
-            }
-            6 => {
-                parts.push(self.ty(0));
-                format!("Rs{at}")
-            }
-            7 => {
-                parts.push(self.ty(0));
-                parts.push(self.member_type());
-                "RS".to_string()
-            }
-            8 => {
-                parts.push(self.ty(0));
-                parts.extend(self.associated());
-                format!("Rt{at}")
-            }
-            9 => format!("Rl{at}C"),
-            10 => {
-                parts.push(self.ty(1));
-                "RLC".to_string()
-            }
-            _ => {
-                parts.extend(self.associated());
-                format!("Rm{at}C")
-            }
-        };
+        let letters =
+            match self.r.weighted(if self.wide() { &[4, 3, 3, 3, 3, 3, 3, 3, 3, 3, 3, 3] } else { &[10, 1, 0, 1, 0, 0, 2, 1, 2, 0, 0, 0] })
+            {
+                0 => {
+                    parts.extend(self.protocol());
+                    format!("R{at}")
+                }
+                1 => {
+                    parts.extend(self.protocol());
+                    parts.extend(self.associated());
+                    format!("Rp{at}")
+                }
+                2 => {
+                    parts.extend(self.protocol());
+                    parts.push(self.ty(1));
+                    "RQ".to_string()
+                }
+                3 => {
+                    parts.push(self.class());
+                    format!("Rb{at}")
+                }
+                4 => {
+                    parts.push(self.class());
+                    parts.push(self.ty(1));
+                    "RB".to_string()
+                }
+                5 => {
+                    parts.push(self.class());
+                    parts.extend(self.associated());
+                    format!("Rc{at}")
+                }
+                6 => {
+                    parts.push(self.ty(0));
+                    format!("Rs{at}")
+                }
+                7 => {
+                    parts.push(self.ty(0));
+                    parts.push(self.member_type());
+                    "RS".to_string()
+                }
+                8 => {
+                    parts.push(self.ty(0));
+                    parts.extend(self.associated());
+                    format!("Rt{at}")
+                }
+                9 => format!("Rl{at}C"),
+                10 => {
+                    parts.push(self.ty(1));
+                    "RLC".to_string()
+                }
+                _ => {
+                    parts.extend(self.associated());
+                    format!("Rm{at}C")
+                }
+            };
         op(parts, &letters)
     }
 
@@ -777,8 +900,11 @@ impl Grammar {
     }
 
     pub fn record(&mut self, depth: usize) -> Tree {
-        let weights: &[usize] =
-            if self.wide() { &[16, 3, 3, 3, 3, 5, 4, 3, 4, 4, 6, 12, 6, 3, 4, 5, 4, 14, 3] } else { &[26, 2, 8, 5, 0, 1, 12, 1, 8, 6, 10, 5, 12, 2, 2, 0, 1, 0, 0] };
+        let weights: &[usize] = if self.wide() {
+            &[16, 3, 3, 3, 3, 5, 4, 3, 4, 4, 6, 12, 6, 3, 4, 5, 4, 14, 3]
+        } else {
+            &[26, 2, 8, 5, 0, 1, 12, 1, 8, 6, 10, 5, 12, 2, 2, 0, 1, 0, 0]
+        };
         match self.r.weighted(weights) {
             0 => {
                 let of = if self.wide() { self.ty(depth) } else { self.nominal(1) };

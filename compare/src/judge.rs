@@ -152,8 +152,12 @@ impl Judge {
         self.calls += 1;
         let what = || format!("reading with N = {n}, a workspace of {workspace} and room for {room}");
         self.judge_whole(Call::Reading, form, text, n, workspace, room, a, what)?;
-        must(kept(&self.dirt, w, &self.small, if (1..=5).contains(&a.number) { 0 } else { 64 * n }), || format!("{}: {a:?}, and the workspace was touched where it may not be", what()))?;
-        must(kept(&self.dirt_bytes, o, &self.out, a.length as usize), || format!("{}: {a:?}, and the output was touched past its length", what()))?;
+        must(kept(&self.dirt, w, &self.small, if (1..=5).contains(&a.number) { 0 } else { 64 * n }), || {
+            format!("{}: {a:?}, and the workspace was touched where it may not be", what())
+        })?;
+        must(kept(&self.dirt_bytes, o, &self.out, a.length as usize), || {
+            format!("{}: {a:?}, and the output was touched past its length", what())
+        })?;
         Ok(a)
     }
 
@@ -167,7 +171,9 @@ impl Judge {
         let what = || format!("reading with N = 65,536 and room for {room}");
         self.judge_whole(Call::Reading, form, text, MOST, 64 * MOST, room, a, what)?;
         must(self.big[64 * MOST..] == before[..], || format!("{}: {a:?}, and the workspace past 64 x N was touched", what()))?;
-        must(kept(&self.dirt_bytes, o, &self.out, a.length as usize), || format!("{}: {a:?}, and the output was touched past its length", what()))?;
+        must(kept(&self.dirt_bytes, o, &self.out, a.length as usize), || {
+            format!("{}: {a:?}, and the output was touched past its length", what())
+        })?;
         Ok(a)
     }
 
@@ -189,7 +195,9 @@ impl Judge {
         let what = || format!("check with N = {n} and a workspace of {workspace}");
         self.judge_whole(Call::Check, form, text, n, workspace, 0, a, what)?;
         must(a.length == 0, || format!("{}: {a:?} has a length", what()))?;
-        must(kept(&self.dirt, w, &self.small, if (1..=5).contains(&a.number) { 0 } else { 8 * n }), || format!("{}: {a:?}, and the workspace was touched where it may not be", what()))?;
+        must(kept(&self.dirt, w, &self.small, if (1..=5).contains(&a.number) { 0 } else { 8 * n }), || {
+            format!("{}: {a:?}, and the workspace was touched where it may not be", what())
+        })?;
         Ok(a)
     }
 
@@ -201,21 +209,37 @@ impl Judge {
         let what = || "check with N = 65,536".to_string();
         self.judge_whole(Call::Check, form, text, MOST, 8 * MOST, 0, a, what)?;
         must(a.length == 0, || format!("{}: {a:?} has a length", what()))?;
-        must(self.big[8 * MOST..8 * MOST + GUARD] == before[..], || format!("{}: {a:?}, and the workspace past 8 x N was touched", what()))?;
+        must(self.big[8 * MOST..8 * MOST + GUARD] == before[..], || {
+            format!("{}: {a:?}, and the workspace past 8 x N was touched", what())
+        })?;
         Ok(a)
     }
 
     /// What every whole call keeps to: 1 to 5 as document 01 orders them, places in bounds, no counts beside a refusal.
-    fn judge_whole(&self, call: Call, form: Form, text: &[u8], n: usize, workspace: usize, room: usize, a: Answer, what: impl Fn() -> String) -> Verdict<()> {
+    fn judge_whole(
+        &self,
+        call: Call,
+        form: Form,
+        text: &[u8],
+        n: usize,
+        workspace: usize,
+        room: usize,
+        a: Answer,
+        what: impl Fn() -> String,
+    ) -> Verdict<()> {
         match refused_early(call, form, text, n, workspace) {
             Some(early) => must(a == early, || format!("{}: {a:?}, and it must be {early:?}", what())),
             None => {
                 must(a.number == 0 || a.number >= 6 && a.number <= 12, || format!("{}: {a:?} has a number that it cannot have", what()))?;
                 must(a.place as usize <= text.len(), || format!("{}: {a:?} has a place past the text", what()))?;
                 must(a.number != 12 && a.number != 0 || a.place == 0, || format!("{}: {a:?} has a place", what()))?;
-                must(a.number == 0 || (a.steps, a.total, a.wraps, a.length) == (0, 0, 0, 0), || format!("{}: {a:?} has counts beside a refusal", what()))?;
+                must(a.number == 0 || (a.steps, a.total, a.wraps, a.length) == (0, 0, 0, 0), || {
+                    format!("{}: {a:?} has counts beside a refusal", what())
+                })?;
                 must(a.length as usize <= room, || format!("{}: {a:?} has a length past the room", what()))?;
-                must(a.steps <= 4096 && a.total as usize <= n && a.wraps <= 256 && a.steps <= a.total, || format!("{}: {a:?} has counts past the limits", what()))
+                must(a.steps <= 4096 && a.total as usize <= n && a.wraps <= 256 && a.steps <= a.total, || {
+                    format!("{}: {a:?} has counts past the limits", what())
+                })
             }
         }
     }
@@ -238,15 +262,25 @@ impl Judge {
         match refused_early(call, form, text, n, numbers) {
             Some(early) => must(a == early, || format!("{}: {a:?}, and it must be {early:?}", what()))?,
             None => {
-                must(a.number == 0 || (6..=12).contains(&a.number) && a.number != 11, || format!("{}: {a:?} has a number that it cannot have", what()))?;
-                must(a.number == 0 || (a.steps, a.total, a.wraps, a.length) == (0, 0, 0, 0), || format!("{}: {a:?} has counts beside a refusal", what()))?;
-                must(a.steps as usize <= k && a.steps <= 4096 && a.total as usize <= n && a.length % 3 == 0, || format!("{}: {a:?} has counts past the limits", what()))?;
+                must(a.number == 0 || (6..=12).contains(&a.number) && a.number != 11, || {
+                    format!("{}: {a:?} has a number that it cannot have", what())
+                })?;
+                must(a.number == 0 || (a.steps, a.total, a.wraps, a.length) == (0, 0, 0, 0), || {
+                    format!("{}: {a:?} has counts beside a refusal", what())
+                })?;
+                must(a.steps as usize <= k && a.steps <= 4096 && a.total as usize <= n && a.length % 3 == 0, || {
+                    format!("{}: {a:?} has counts past the limits", what())
+                })?;
             }
         }
         if !most {
-            must(kept(&self.dirt, w, &self.small, if (1..=5).contains(&a.number) { 0 } else { numbers }), || format!("{}: {a:?}, and the workspace was touched where it may not be", what()))?;
+            must(kept(&self.dirt, w, &self.small, if (1..=5).contains(&a.number) { 0 } else { numbers }), || {
+                format!("{}: {a:?}, and the workspace was touched where it may not be", what())
+            })?;
         }
-        must(kept(&self.dirt, o, &self.stack, a.length as usize), || format!("{}: {a:?}, and the output was touched past its length", what()))?;
+        must(kept(&self.dirt, o, &self.stack, a.length as usize), || {
+            format!("{}: {a:?}, and the output was touched past its length", what())
+        })?;
         Ok(a)
     }
 
@@ -279,7 +313,9 @@ impl Judge {
             match rust {
                 Rust::Text(t) if text.len() <= MOST_TEXT => {
                     must(a.number == 0, || format!("the Rust reads {t:?}, the reading answers {a:?}"))?;
-                    must(self.out[..a.length as usize] == *t.as_bytes(), || format!("the Rust reads {t:?}, ours {:?}", String::from_utf8_lossy(&self.out[..a.length as usize])))?;
+                    must(self.out[..a.length as usize] == *t.as_bytes(), || {
+                        format!("the Rust reads {t:?}, ours {:?}", String::from_utf8_lossy(&self.out[..a.length as usize]))
+                    })?;
                 }
                 Rust::None => must((3..=11).contains(&a.number), || format!("the Rust reads nothing, the reading answers {a:?}"))?,
                 _ => {}
@@ -289,7 +325,9 @@ impl Judge {
         match (at_most, rust) {
             (None, Rust::Text(_)) => must(checked.number == 0, || format!("the Rust reads a text, the check answers {checked:?}"))?,
             (Some(a), _) if a.number == 12 => must(checked.number == 0, || format!("the reading answers 12, the check {checked:?}"))?,
-            (Some(a), _) => must(Answer { length: 0, ..a } == checked, || format!("with N = 65,536 the reading answers {a:?}, the check {checked:?}"))?,
+            (Some(a), _) => {
+                must(Answer { length: 0, ..a } == checked, || format!("with N = 65,536 the reading answers {a:?}, the check {checked:?}"))?
+            }
             _ => {}
         }
 
@@ -310,7 +348,9 @@ impl Judge {
         if a.number == 0 && a.length > 0 {
             let less = self.r.below(a.length as usize);
             let (b, _) = self.both_stopped(form, text, n, k, less)?;
-            must(b == Answer::refused(12, 0), || format!("stopped with N = {n}, k = {k}: {} numbers into {less} are {b:?} and not 12", a.length))?;
+            must(b == Answer::refused(12, 0), || {
+                format!("stopped with N = {n}, k = {k}: {} numbers into {less} are {b:?} and not 12", a.length)
+            })?;
             let (b, again) = self.both_stopped(form, text, n, k, a.length as usize)?;
             must(b == a && again == stack, || format!("stopped with N = {n}, k = {k}: {a:?} with room to spare, {b:?} with just enough"))?;
         }
@@ -350,7 +390,11 @@ impl Judge {
             let w = self.enough(Call::Check, n);
             let c = self.check(form, text, n, w)?;
             self.as_the_oracle(form, text, rust, n, None, c, &[])?;
-            let say = || format!("with N = 65,536 {checked:?}; with N = {n} and room for {room} of {length} the reading answers {a:?}, the check {c:?}");
+            let say = || {
+                format!(
+                    "with N = 65,536 {checked:?}; with N = {n} and room for {room} of {length} the reading answers {a:?}, the check {c:?}"
+                )
+            };
             if checked.number == 0 {
                 let fits = checked.total as usize <= n;
                 must(if fits { c == checked } else { c.number == 7 }, say)?;
@@ -361,7 +405,9 @@ impl Judge {
             if let Rust::Text(t) = rust {
                 if c.number == 0 && t.len() <= MOST_OUT {
                     must(a.number == if room >= t.len() { 0 } else { 12 }, say)?;
-                    must(a.number == 12 || written(&self.out, a) == t.as_bytes(), || format!("with N = {n} the Rust reads {t:?}, ours {:?}", String::from_utf8_lossy(written(&self.out, a))))?;
+                    must(a.number == 12 || written(&self.out, a) == t.as_bytes(), || {
+                        format!("with N = {n} the Rust reads {t:?}, ours {:?}", String::from_utf8_lossy(written(&self.out, a)))
+                    })?;
                 }
             }
         }
@@ -391,9 +437,18 @@ impl Judge {
             return Ok(());
         }
         let theirs = instrumented::answer(text, form == Form::Symbol, n, k, false, 0);
-        let a = Answer { number: theirs.number, place: theirs.place, steps: theirs.steps, total: theirs.total, wraps: theirs.wraps, length: theirs.entries.len() as u64 };
+        let a = Answer {
+            number: theirs.number,
+            place: theirs.place,
+            steps: theirs.steps,
+            total: theirs.total,
+            wraps: theirs.wraps,
+            length: theirs.entries.len() as u64,
+        };
         let a = if a.number == 0 { a } else { Answer::refused(a.number, a.place as usize) };
-        must(a == ours && theirs.entries == stack, || format!("N = {n}, k = {k:?}: the instrumented Rust answers {a:?} {:?}, ours {ours:?} {stack:?}", theirs.entries))
+        must(a == ours && theirs.entries == stack, || {
+            format!("N = {n}, k = {k:?}: the instrumented Rust answers {a:?} {:?}, ours {ours:?} {stack:?}", theirs.entries)
+        })
     }
 }
 

@@ -5,10 +5,40 @@ extern "C" {
     fn swift_demangle_type(t: *const u8, tl: usize, n: usize, w: *mut u32, wl: usize, o: *mut u8, ol: usize, answer: *mut u64);
     fn swift_shape(t: *const u8, tl: usize, n: usize, w: *mut u32, wl: usize, answer: *mut u64);
     fn swift_shape_type(t: *const u8, tl: usize, n: usize, w: *mut u32, wl: usize, answer: *mut u64);
-    fn swift_demangle_stopped(t: *const u8, tl: usize, n: usize, k: usize, w: *mut u32, wl: usize, o: *mut u32, ol: usize, answer: *mut u64);
-    fn swift_demangle_type_stopped(t: *const u8, tl: usize, n: usize, k: usize, w: *mut u32, wl: usize, o: *mut u32, ol: usize, answer: *mut u64);
+    fn swift_demangle_stopped(
+        t: *const u8,
+        tl: usize,
+        n: usize,
+        k: usize,
+        w: *mut u32,
+        wl: usize,
+        o: *mut u32,
+        ol: usize,
+        answer: *mut u64,
+    );
+    fn swift_demangle_type_stopped(
+        t: *const u8,
+        tl: usize,
+        n: usize,
+        k: usize,
+        w: *mut u32,
+        wl: usize,
+        o: *mut u32,
+        ol: usize,
+        answer: *mut u64,
+    );
     fn swift_shape_stopped(t: *const u8, tl: usize, n: usize, k: usize, w: *mut u32, wl: usize, o: *mut u32, ol: usize, answer: *mut u64);
-    fn swift_shape_type_stopped(t: *const u8, tl: usize, n: usize, k: usize, w: *mut u32, wl: usize, o: *mut u32, ol: usize, answer: *mut u64);
+    fn swift_shape_type_stopped(
+        t: *const u8,
+        tl: usize,
+        n: usize,
+        k: usize,
+        w: *mut u32,
+        wl: usize,
+        o: *mut u32,
+        ol: usize,
+        answer: *mut u64,
+    );
 }
 
 #[derive(Clone, Copy, PartialEq, Eq, Debug)]

@@ -180,8 +180,8 @@ fn named(g: &mut Grammar) -> (Form, Option<Tree>, Vec<u8>) {
 
 /// Operators that take nothing from the stack, and short runs that leave one node.
 const MAKERS: [&str; 34] = [
-    "y", "_", "d", "K", "Ya", "x", "q_", "q0_", "qd__", "Si", "SS", "Sb", "Sa", "SD", "Sq", "SH", "SQ", "S2i", "S3S", "s", "So", "SC", "Xl",
-    "1a", "4main", "3Foo", "7FooItem", "0A0", "0B3Bar", "AA", "AB", "AC", "Ab", "A2a",
+    "y", "_", "d", "K", "Ya", "x", "q_", "q0_", "qd__", "Si", "SS", "Sb", "Sa", "SD", "Sq", "SH", "SQ", "S2i", "S3S", "s", "So", "SC",
+    "Xl", "1a", "4main", "3Foo", "7FooItem", "0A0", "0B3Bar", "AA", "AB", "AC", "Ab", "A2a",
 ];
 
 /// Every operator with an operand or none, and operands that stand at a rule's edge.
@@ -198,8 +198,32 @@ fn tokens() -> Vec<String> {
 }
 
 pub const NUMBERS: [&str; 27] = [
-    "0", "1", "2", "3", "9", "10", "25", "26", "27", "00", "01", "007", "255", "256", "257", "4095", "4096", "4097", "65535", "65536",
-    "4294967295", "4294967296", "9223372036854775807", "18446744073709551588", "18446744073709551614", "18446744073709551615",
+    "0",
+    "1",
+    "2",
+    "3",
+    "9",
+    "10",
+    "25",
+    "26",
+    "27",
+    "00",
+    "01",
+    "007",
+    "255",
+    "256",
+    "257",
+    "4095",
+    "4096",
+    "4097",
+    "65535",
+    "65536",
+    "4294967295",
+    "4294967296",
+    "9223372036854775807",
+    "18446744073709551588",
+    "18446744073709551614",
+    "18446744073709551615",
     "18446744073709551616",
 ];
 
@@ -252,8 +276,23 @@ fn boundaries() -> Vec<(Form, Vec<u8>)> {
     // 256 wraps, by each operator that wraps
     for n in around(256) {
         for (front, unit, back) in [
-            ("Si", "m", ""), ("Si", "z", ""), ("Si", "Xp", ""), ("Si", "XMt", ""), ("Si", "Sg", ""), ("Si", "_t", ""), ("y", "yc", ""), ("Si", "Sic", ""), ("x", "yXE", ""),
-            ("", "yp", ""), ("", "yt", ""), ("", "SayG", ""), ("1a", "1byyF", ""), ("1a", "1byylF", ""), ("1a", "1blxvp", ""), ("1a", "yxclfC", ""), ("yt", "mz", "m"),
+            ("Si", "m", ""),
+            ("Si", "z", ""),
+            ("Si", "Xp", ""),
+            ("Si", "XMt", ""),
+            ("Si", "Sg", ""),
+            ("Si", "_t", ""),
+            ("y", "yc", ""),
+            ("Si", "Sic", ""),
+            ("x", "yXE", ""),
+            ("", "yp", ""),
+            ("", "yt", ""),
+            ("", "SayG", ""),
+            ("1a", "1byyF", ""),
+            ("1a", "1byylF", ""),
+            ("1a", "1blxvp", ""),
+            ("1a", "yxclfC", ""),
+            ("yt", "mz", "m"),
         ] {
             add(format!("{front}{}{back}", unit.repeat(n)));
             add(format!("{front}{}{back}", unit.repeat(n / 2)));
@@ -304,13 +343,43 @@ fn boundaries() -> Vec<(Form, Vec<u8>)> {
         add(format!("Say{}Si{}", "Say".repeat(n - 1), "G".repeat(n)));
     }
     // 2^64 in each place where a number stands
-    for base in ["18446744073709551615", "9223372036854775807", "4294967295", "384307168202282325", "184467440737095516", "99999999999999999999"] {
+    for base in
+        ["18446744073709551615", "9223372036854775807", "4294967295", "384307168202282325", "184467440737095516", "99999999999999999999"]
+    {
         let b: u128 = base.parse().unwrap();
         for d in -31..=4i128 {
             let n = b.wrapping_add(d as u128);
             for form in [
-                "q@_", "qd@__", "qd_@_", "qd@_@_", "1AQy@_", "1AQd@__", "1AQd_@_", "SHR@_l", "SHRd@__l", "SHRd_@_l", "Rl@_Cl", "SH1ARp@_l", "SiRs@_l", "r@_l", "r@_zl", "rz@_l",
-                "1a1byyr@_lF", "1a1b1cySi_tr@_lF", "1aA@A", "1aA@a", "1aA@_", "1a1bVA@C", "S@i", "SiS@g", "@a", "0@a", "00@a", "00@_a", "1a1byyFTY@_", "1P1a1byyr@_lF1cPQz",
+                "q@_",
+                "qd@__",
+                "qd_@_",
+                "qd@_@_",
+                "1AQy@_",
+                "1AQd@__",
+                "1AQd_@_",
+                "SHR@_l",
+                "SHRd@__l",
+                "SHRd_@_l",
+                "Rl@_Cl",
+                "SH1ARp@_l",
+                "SiRs@_l",
+                "r@_l",
+                "r@_zl",
+                "rz@_l",
+                "1a1byyr@_lF",
+                "1a1b1cySi_tr@_lF",
+                "1aA@A",
+                "1aA@a",
+                "1aA@_",
+                "1a1bVA@C",
+                "S@i",
+                "SiS@g",
+                "@a",
+                "0@a",
+                "00@a",
+                "00@_a",
+                "1a1byyFTY@_",
+                "1P1a1byyr@_lF1cPQz",
             ] {
                 add(form.replace('@', &n.to_string()));
             }
@@ -394,12 +463,14 @@ fn boundaries() -> Vec<(Form, Vec<u8>)> {
         list.push((Form::Symbol, b.to_vec()));
         list.push((Form::Type, b.to_vec()));
     };
-    for p in ["", "$", "_", "_$", "$s", "$S", "_$s", "_$S", "__$s", "$$s", "s", "$ s", "$T", "_$T", "$s.", "$s.x", "$S..", "_$s.é", "x$s"] {
+    for p in ["", "$", "_", "_$", "$s", "$S", "_$s", "_$S", "__$s", "$$s", "s", "$ s", "$T", "_$T", "$s.", "$s.x", "$S..", "_$s.é", "x$s"]
+    {
         for body in ["", "4main3fooyyF", "4main3fooyyF.1", "4main3fooyyF.1.2", "4main3foo.yyF", "8main.Foo3fooyyF", "_", "_.", "."] {
             symbol(format!("{p}{body}").as_bytes());
         }
     }
-    for first in [0x00u8, 0x7F, 0x80, 0xBF, 0xC0, 0xC1, 0xC2, 0xDF, 0xE0, 0xE1, 0xEC, 0xED, 0xEE, 0xEF, 0xF0, 0xF1, 0xF3, 0xF4, 0xF5, 0xFF] {
+    for first in [0x00u8, 0x7F, 0x80, 0xBF, 0xC0, 0xC1, 0xC2, 0xDF, 0xE0, 0xE1, 0xEC, 0xED, 0xEE, 0xEF, 0xF0, 0xF1, 0xF3, 0xF4, 0xF5, 0xFF]
+    {
         for second in [0x7Fu8, 0x80, 0x8F, 0x90, 0x9F, 0xA0, 0xBF, 0xC0] {
             for tail in [&b""[..], b"\x80", b"\xBF\x80", b"\x80\xBFz", b"\xC0\x80"] {
                 let sequence = [&[first, second], tail].concat();
