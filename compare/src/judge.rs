@@ -367,7 +367,13 @@ impl Judge {
         }
 
         // other ceilings: accepted where the charged total fits, else 7; a refusal stays or becomes 7 at no later place
-        if refused_early(Call::Check, form, text, 1, usize::MAX).is_none() {
+        if refused_early(Call::Check, form, text, 1, usize::MAX).is_some() {
+            let (n, room) = (1 + self.r.below(30), self.r.below(30));
+            let w = self.enough(Call::Reading, n);
+            self.read(form, text, n, w, room)?;
+            let w = self.enough(Call::Check, n);
+            self.check(form, text, n, w)?;
+        } else {
             let n = match self.r.below(4) {
                 0 if checked.number == 0 => checked.total as usize,
                 1 if checked.number == 0 => (checked.total as usize).saturating_sub(1).max(1),
