@@ -20,6 +20,10 @@ use std::collections::HashSet;
 use std::io::BufRead;
 
 const MOST: usize = 65_536;
+
+/// The most that the program `vectors` lends to a reading: a program of ours has no heap, and 64 × 65,536 numbers are more than its stack.
+/// Readings with N = 65,536 are compared by `compare/run`.
+const LENT: usize = 16_384;
 const ROOM: usize = 4096;
 
 #[derive(Clone, PartialEq, Eq, Hash)]
@@ -147,7 +151,7 @@ fn check(cases: &str, answers: &str) {
         numbers[head[0] as usize] += 1;
         calls[c.number()] += 1;
         let text = match std::str::from_utf8(&c.text) {
-            Ok(text) if c.ceiling == MOST && c.k.is_none() && head[0] != 2 && head[0] != 3 && !huge(&c.text) => text,
+            Ok(text) if (c.ceiling == MOST || c.ceiling == LENT && head[0] != 7) && c.k.is_none() && head[0] != 2 && head[0] != 3 && !huge(&c.text) => text,
             _ => continue,
         };
         let theirs = if c.form == Form::Symbol { swift_demangle::demangle(text) } else { swift_demangle::demangle_type(text) };
@@ -176,7 +180,10 @@ struct List {
 }
 
 impl List {
-    fn add(&mut self, c: Case) {
+    fn add(&mut self, mut c: Case) {
+        if c.call == Call::Reading && c.ceiling == MOST && c.workspace + 1 >= 64 * MOST {
+            (c.ceiling, c.workspace) = (LENT, c.workspace - 64 * (MOST - LENT));
+        }
         if self.seen.insert(c.clone()) {
             self.all.push(c);
         }
