@@ -17,8 +17,7 @@ fail() {
 
 # The Rust source as a library of its own.
 reference() {
-    [ -f "$RUST_SOURCE" ] || RUST_SOURCE=$(git -C "$root" rev-parse --path-format=absolute --git-common-dir)/../../shared/docs/src/crates/ag-engine/src/swift_demangle.rs
-    [ -f "$RUST_SOURCE" ] || fail "no Rust source: set RUST_SOURCE to the path of swift_demangle.rs"
+    [ -f "$RUST_SOURCE" ] || fail "no $RUST_SOURCE: set RUST_SOURCE to the path of swift_demangle.rs"
     rustc --edition 2021 -C opt-level=3 --crate-type rlib --crate-name swift_demangle --cap-lints allow "$RUST_SOURCE" -o "$out/libswift_demangle.rlib"
     link+=(--extern "swift_demangle=$out/libswift_demangle.rlib")
 }

@@ -18,7 +18,7 @@ mod texts;
 use judge::{Judge, Rust};
 use ours::Form;
 use shared::{End, Phase, Shared};
-use std::io::Write;
+use std::io::{IsTerminal, Write};
 use std::sync::atomic::Ordering::Relaxed;
 use std::time::{Duration, Instant};
 use texts::{Source, Text, Texts};
@@ -93,8 +93,17 @@ fn form_of(number: usize) -> Form {
 
 /// Judges every `step`th text from `start` on. The Rust is not asked about the text `skip`.
 #[allow(clippy::too_many_arguments)]
-fn work(shared: &mut Shared, texts: &Texts, operators: &[String], start: usize, step: usize, total: usize, seed: u64, skip: Option<usize>) {
-    let mut judge = Judge::new(seed.wrapping_add(start as u64));
+fn work(
+    shared: &'static Shared,
+    texts: &Texts,
+    operators: &[String],
+    start: usize,
+    step: usize,
+    total: usize,
+    seed: u64,
+    skip: Option<usize>,
+) {
+    let mut judge = Judge::new(seed.wrapping_add(start as u64), shared);
     let mut i = start;
     while i < total {
         shared.enter(Phase::Idle, i as u64);
@@ -157,18 +166,16 @@ impl Watch {
 
 fn main() {
     let o = options();
-    let shared: &'static mut Shared = Shared::new();
-    let shared_at = shared as *mut Shared as usize;
-    let shared_again = move || unsafe { &mut *(shared_at as *mut Shared) };
+    let shared = Shared::new();
     std::env::set_var("RUST_BACKTRACE", "0");
     std::panic::set_hook(Box::new(move |panic| {
-        if shared_again().here().1 != Phase::Rust {
+        if shared.here().1 != Phase::Rust {
             eprintln!("{panic}");
-            shared_again().difference(0, b"", &format!("the comparison itself: {panic}"));
+            shared.difference(0, b"", &format!("the comparison itself: {panic}"));
         }
     }));
     if let Some(text) = o.one {
-        match differs(shared_again, text.form, &text.bytes) {
+        match differs(shared, text.form, &text.bytes) {
             None => println!("no difference"),
             Some(say) => {
                 println!("{say}");
@@ -185,11 +192,12 @@ fn main() {
     let begun = Instant::now();
     let launch = |worker: usize, start: usize, skip: Option<usize>| {
         let (texts, operators, workers, seed) = (&texts, &operators, o.workers, o.seed);
-        shared::start(worker, MOST_MEMORY, move || work(shared_again(), texts, operators, start, workers, total, seed, skip))
+        shared::start(worker, MOST_MEMORY, move || work(shared, texts, operators, start, workers, total, seed, skip))
     };
     let mut pids: Vec<Option<i32>> = (0..o.workers).map(|w| Some(launch(w, w, None))).collect();
     let mut watches: Vec<Watch> = (0..o.workers).map(|_| Watch::new()).collect();
     let (mut died, mut slow) = (0u64, 0u64);
+    let every = Duration::from_secs(if std::io::stderr().is_terminal() { 1 } else { 60 });
     let mut last_line = Instant::now();
     while pids.iter().any(Option::is_some) && shared.noted().is_none() {
         std::thread::sleep(Duration::from_millis(20));
@@ -219,7 +227,7 @@ fn main() {
                 shared.difference(form_number(text.form), &text.bytes, say);
             }
         }
-        if last_line.elapsed() > Duration::from_secs(1) {
+        if last_line.elapsed() > every {
             last_line = Instant::now();
             line(shared, total, died, slow, begun);
         }
@@ -230,7 +238,7 @@ fn main() {
         shared::stop(pid);
     }
     if let Some((form, text, say)) = shared.noted() {
-        report(shared_again, form_of(form), text, say);
+        report(shared, form_of(form), text, say);
         std::process::exit(1);
     }
     summary(shared, &operators, total, died, slow, begun);
@@ -282,36 +290,36 @@ fn summary(shared: &Shared, operators: &[String], total: usize, died: u64, slow:
 }
 
 /// Judges one text in a process of its own, several times with other choices. What differs, if anything.
-fn differs(shared: impl Fn() -> &'static mut Shared + Copy + Send, form: Form, text: &[u8]) -> Option<String> {
-    shared().forget();
+fn differs(shared: &'static Shared, form: Form, text: &[u8]) -> Option<String> {
+    shared.forget();
     let mut skip = false;
     loop {
         let bytes = text.to_vec();
         let pid = shared::start(0, MOST_MEMORY, move || {
-            let rust = if skip { Rust::Failed } else { judge::rust(form, &bytes, shared(), 0) };
-            shared().enter(Phase::Ours, 0);
-            let mut judge = Judge::new(7);
+            let rust = if skip { Rust::Failed } else { judge::rust(form, &bytes, shared, 0) };
+            shared.enter(Phase::Ours, 0);
+            let mut judge = Judge::new(7, shared);
             for seed in 0..40 {
                 judge.begin(seed);
                 if let Err(say) = judge.judge(form, &bytes, &rust) {
-                    return shared().difference(form_number(form), &bytes, &say);
+                    return shared.difference(form_number(form), &bytes, &say);
                 }
-                shared().enter(Phase::Ours, 0);
+                shared.enter(Phase::Ours, 0);
             }
         });
         let mut watch = Watch::new();
         let died = loop {
             match shared::end_of(pid) {
-                End::Ended => return shared().noted().map(|(_, _, say)| say),
+                End::Ended => return shared.noted().map(|(_, _, say)| say),
                 End::Died => break true,
-                End::Running if watch.still(shared().at(0).2) => {
+                End::Running if watch.still(shared.at(0).2) => {
                     shared::stop(pid);
                     break false;
                 }
                 End::Running => std::thread::sleep(Duration::from_micros(200)),
             }
         };
-        if shared().at(0).1 != Phase::Rust {
+        if shared.at(0).1 != Phase::Rust {
             return Some(if died { "our call ended the process" } else { "our call is not done" }.to_string());
         }
         skip = true;
@@ -319,7 +327,7 @@ fn differs(shared: impl Fn() -> &'static mut Shared + Copy + Send, form: Form, t
 }
 
 /// The smallest text, by leaving out bytes, that still differs; and what differs.
-fn report(shared: impl Fn() -> &'static mut Shared + Copy + Send, form: Form, text: Vec<u8>, say: String) {
+fn report(shared: &'static Shared, form: Form, text: Vec<u8>, say: String) {
     println!("DIFFERENCE in a {form:?} of {} bytes: {say}", text.len());
     let (mut text, mut say) = (text, say);
     match differs(shared, form, &text) {

@@ -46,6 +46,7 @@ pub struct Judge {
     out: Vec<u8>,
     stack: Vec<u32>,
     pub calls: u64,
+    shared: &'static Shared,
 }
 
 /// Dirt of this length, from there on and round again.
@@ -105,12 +106,18 @@ fn refused_early(call: Call, form: Form, text: &[u8], n: usize, workspace: usize
 }
 
 impl Judge {
-    pub fn new(seed: u64) -> Judge {
+    pub fn new(seed: u64, shared: &'static Shared) -> Judge {
         let mut r = Random::new(seed);
         let dirt: Vec<u32> = (0..1 << 18).map(|_| r.next() as u32).collect();
         let dirt_bytes: Vec<u8> = (0..1 << 18).map(|_| r.next() as u8).collect();
         let big: Vec<u32> = (0..64 * MOST + GUARD).map(|i| dirt[i % dirt.len()]).collect();
-        Judge { r, dirt, dirt_bytes, big, small: Vec::new(), out: Vec::new(), stack: Vec::new(), calls: 0 }
+        Judge { r, dirt, dirt_bytes, big, small: Vec::new(), out: Vec::new(), stack: Vec::new(), calls: 0, shared }
+    }
+
+    /// A call was made: the process moves.
+    fn called(&mut self) {
+        self.calls += 1;
+        self.shared.turn();
     }
 
     /// From here on the same choices for the same seed.
@@ -149,7 +156,7 @@ impl Judge {
         let w = self.workspace(workspace);
         let o = self.output(room);
         let a = ours::read(form, text, n, &mut self.small[..workspace], &mut self.out[..room]);
-        self.calls += 1;
+        self.called();
         let what = || format!("reading with N = {n}, a workspace of {workspace} and room for {room}");
         self.judge_whole(Call::Reading, form, text, n, workspace, room, a, what)?;
         must(kept(&self.dirt, w, &self.small, if (1..=5).contains(&a.number) { 0 } else { 64 * n }), || {
@@ -167,7 +174,7 @@ impl Judge {
         self.soil();
         let before: Vec<u32> = self.big[64 * MOST..].to_vec();
         let a = ours::read(form, text, MOST, &mut self.big, &mut self.out[..room]);
-        self.calls += 1;
+        self.called();
         let what = || format!("reading with N = 65,536 and room for {room}");
         self.judge_whole(Call::Reading, form, text, MOST, 64 * MOST, room, a, what)?;
         must(self.big[64 * MOST..] == before[..], || format!("{}: {a:?}, and the workspace past 64 x N was touched", what()))?;
@@ -191,7 +198,7 @@ impl Judge {
     fn check(&mut self, form: Form, text: &[u8], n: usize, workspace: usize) -> Verdict<Answer> {
         let w = self.workspace(workspace);
         let a = ours::check(form, text, n, &mut self.small[..workspace]);
-        self.calls += 1;
+        self.called();
         let what = || format!("check with N = {n} and a workspace of {workspace}");
         self.judge_whole(Call::Check, form, text, n, workspace, 0, a, what)?;
         must(a.length == 0, || format!("{}: {a:?} has a length", what()))?;
@@ -205,7 +212,7 @@ impl Judge {
         self.soil();
         let before: Vec<u32> = self.big[8 * MOST..8 * MOST + GUARD].to_vec();
         let a = ours::check(form, text, MOST, &mut self.big[..8 * MOST + GUARD / 2]);
-        self.calls += 1;
+        self.called();
         let what = || "check with N = 65,536".to_string();
         self.judge_whole(Call::Check, form, text, MOST, 8 * MOST, 0, a, what)?;
         must(a.length == 0, || format!("{}: {a:?} has a length", what()))?;
@@ -257,7 +264,7 @@ impl Judge {
         } else {
             ours::stopped(call, form, text, n, k, &mut self.small[..workspace], &mut self.stack[..room])
         };
-        self.calls += 1;
+        self.called();
         let what = || format!("stopped {call:?} with N = {n}, k = {k} and room for {room}");
         match refused_early(call, form, text, n, numbers) {
             Some(early) => must(a == early, || format!("{}: {a:?}, and it must be {early:?}", what()))?,

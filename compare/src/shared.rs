@@ -1,6 +1,6 @@
 //! What the processes of a comparison share: counters, what each worker is at, and the text that differs.
 
-use std::sync::atomic::{AtomicU64, AtomicUsize, Ordering::Relaxed, Ordering::SeqCst};
+use std::sync::atomic::{AtomicU64, AtomicU8, AtomicUsize, Ordering::Relaxed, Ordering::SeqCst};
 
 extern "C" {
     fn mmap(at: *mut u8, length: usize, protection: i32, flags: i32, file: i32, offset: i64) -> *mut u8;
@@ -53,21 +53,21 @@ pub struct Shared {
     length: AtomicUsize,
     form: AtomicUsize,
     say_length: AtomicUsize,
-    text: [u8; TEXT],
-    say: [u8; TEXT],
+    text: [AtomicU8; TEXT],
+    say: [AtomicU8; TEXT],
 }
 
 /// Which worker this process is.
 static mut ME: usize = 0;
 
 impl Shared {
-    pub fn new() -> &'static mut Shared {
+    pub fn new() -> &'static Shared {
         const READ_WRITE: i32 = 3;
         const SHARED_ANONYMOUS: i32 = 0x21;
         unsafe {
             let p = mmap(std::ptr::null_mut(), std::mem::size_of::<Shared>(), READ_WRITE, SHARED_ANONYMOUS, -1, 0);
             assert!(p as isize != -1, "no shared memory");
-            &mut *(p as *mut Shared)
+            &*(p as *const Shared)
         }
     }
 
@@ -77,6 +77,10 @@ impl Shared {
 
     pub fn enter(&self, phase: Phase, at: u64) {
         self.me().at.store(4 * at + phase as u64, Relaxed);
+        self.turn();
+    }
+
+    pub fn turn(&self) {
         self.me().turns.fetch_add(1, Relaxed);
     }
 
@@ -91,16 +95,12 @@ impl Shared {
     }
 
     /// Notes a text that differs, the first one only.
-    pub fn difference(&mut self, form: usize, text: &[u8], say: &str) {
+    pub fn difference(&self, form: usize, text: &[u8], say: &str) {
         if self.differs.compare_exchange(0, 1, SeqCst, SeqCst).is_err() {
             return;
         }
-        let n = text.len().min(TEXT);
-        self.text[..n].copy_from_slice(&text[..n]);
-        let m = say.len().min(TEXT);
-        self.say[..m].copy_from_slice(&say.as_bytes()[..m]);
-        self.length.store(n, SeqCst);
-        self.say_length.store(m, SeqCst);
+        self.length.store(keep(&self.text, text), SeqCst);
+        self.say_length.store(keep(&self.say, say.as_bytes()), SeqCst);
         self.form.store(form, SeqCst);
         self.differs.store(2, SeqCst);
     }
@@ -109,13 +109,20 @@ impl Shared {
         if self.differs.load(SeqCst) != 2 {
             return None;
         }
-        let say = String::from_utf8_lossy(&self.say[..self.say_length.load(SeqCst)]).into_owned();
-        Some((self.form.load(SeqCst), self.text[..self.length.load(SeqCst)].to_vec(), say))
+        let of = |bytes: &[AtomicU8], n: &AtomicUsize| bytes[..n.load(SeqCst)].iter().map(|b| b.load(Relaxed)).collect::<Vec<u8>>();
+        let say = String::from_utf8_lossy(&of(&self.say, &self.say_length)).into_owned();
+        Some((self.form.load(SeqCst), of(&self.text, &self.length), say))
     }
 
-    pub fn forget(&mut self) {
+    pub fn forget(&self) {
         self.differs.store(0, SeqCst);
     }
+}
+
+/// Keeps as much as there is room for, and answers how much that is.
+fn keep(to: &[AtomicU8], bytes: &[u8]) -> usize {
+    to.iter().zip(bytes).for_each(|(to, b)| to.store(*b, Relaxed));
+    bytes.len().min(to.len())
 }
 
 /// Runs `work` in a process of its own, as this worker, with a large stack and a bound on memory, and with no standard error: the Rust
