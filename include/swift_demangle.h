@@ -1,0 +1,126 @@
+/* Cepruvels for C: the calls of the crate `swift_demangle`, as the crate `capi` exports them.
+ *
+ * `rt staticlib capi` proves the calls and writes target/staticlib/libcapi.a (x86-64 Linux); link that archive and nothing else. The calls
+ * allocate nothing, keep nothing from one call to the next and write only where this page says so; any number of threads may call
+ * at once, each with memory of its own. What each call answers is proved equal to the definition (crates/definition/specs).
+ *
+ * What every call takes
+ *
+ *   text, text_length       The name, in UTF-8, with no NUL behind it. A symbol begins with $s, _$s, $S or _$S; a type has no prefix.
+ *   ceiling                 N, 1 to 65,536: how many nodes may be charged. 256 is enough for nearly all names of shipped binaries, and
+ *                           65,536 for every name that any call reads.
+ *   workspace, .._length    Scratch memory in numbers of 32 bits: 64 x N of them for a reading, 8 x N for a shape check (the macros
+ *                           below). It needs no clearing. The first 64 x N (8 x N) numbers hold anything afterwards; those past them are
+ *                           not touched, and none is where the answer is 1 to 5.
+ *   out, out_length         Where the text (bytes) or the stack (numbers of 32 bits) goes; its length counts elements. Only the first
+ *                           `length` elements are written, no NUL behind them, and none where the call refuses.
+ *   answer                  Six numbers, all written by every call; their places are the enumeration below.
+ *
+ * No pointer may be NULL, not even beside a length of 0, and each is aligned as its type asks. workspace, out and answer overlap
+ * neither each other nor the text. The lengths are true: the calls trust them.
+ *
+ * The answer
+ *
+ *   number   0 accepted, or the refusal, 1 to 12
+ *   place    0 where accepted; else the offset in the text that the list below gives
+ *   steps    operators read          \
+ *   total    nodes charged            > all 0 where the call refuses
+ *   wraps    types wrapped in others /
+ *   length   how many elements of out were written; 0 where the call refuses, and for a whole shape check
+ *
+ * The refusals, first one first
+ *
+ *    1  the ceiling is 0 or above 65,536                                                         place 0
+ *    2  the workspace has fewer than 64 x N (shape check: 8 x N) numbers                         place 0
+ *    3  the text has more than 65,535 bytes                                                      place 0
+ *    4  the text is not UTF-8                                                                    place: its first ill-formed sequence
+ *    5  a symbol has no prefix, or nothing behind it (no refusal of a type)                      place 0
+ *    6  a 4,097th operator                                                                       \
+ *    7  more than N nodes charged                                                                 |
+ *    8  a 257th wrap, or a 257th count behind `r`                                                 |  place: the operator's
+ *    9  a letter, number, index, word or literal that breaks a rule, or a text that stops         |  first byte
+ *       inside an operator                                                                        |
+ *   10  a node missing from the stack, or of the wrong kind                                      /
+ *   11  not exactly one node left, or a bare identifier; for a type, a node that is no type      place: the body's end
+ *   12  the text (stopped: the stack) has more elements than out                                 place 0
+ *
+ * A shape check gives the same answer as the reading, for every text and ceiling, but for 12, which it has none of when it is whole, and
+ * for the length of a whole one.
+ *
+ * A stopped call ends after k operators, or at the body's end if that comes sooner. In place of a text it writes the stack, bottom first,
+ * three numbers an entry: kind (0 to 34), size and count. It never answers 11.
+ */
+#ifndef SWIFT_DEMANGLE_H
+#define SWIFT_DEMANGLE_H
+
+#include <stddef.h>
+#include <stdint.h>
+
+#ifdef __cplusplus
+extern "C" {
+#endif
+
+/* The places of an answer's numbers, and how many they are. */
+enum {
+    SWIFT_ANSWER_NUMBER,
+    SWIFT_ANSWER_PLACE,
+    SWIFT_ANSWER_STEPS,
+    SWIFT_ANSWER_TOTAL,
+    SWIFT_ANSWER_WRAPS,
+    SWIFT_ANSWER_LENGTH,
+    SWIFT_ANSWER_SIZE
+};
+
+/* What an answer's number says. */
+enum {
+    SWIFT_ACCEPTED,
+    SWIFT_REFUSED_CEILING,
+    SWIFT_REFUSED_WORKSPACE,
+    SWIFT_REFUSED_LENGTH,
+    SWIFT_REFUSED_ENCODING,
+    SWIFT_REFUSED_PREFIX,
+    SWIFT_REFUSED_STEPS,
+    SWIFT_REFUSED_CHARGE,
+    SWIFT_REFUSED_NESTING,
+    SWIFT_REFUSED_SPELLING,
+    SWIFT_REFUSED_STACK,
+    SWIFT_REFUSED_LEFTOVER,
+    SWIFT_REFUSED_OUTPUT
+};
+
+#define SWIFT_MOST_CEILING 65536
+#define SWIFT_MOST_TEXT 65535
+#define SWIFT_READING_NUMBERS(N) (64 * (size_t)(N))
+#define SWIFT_SHAPE_NUMBERS(N) (8 * (size_t)(N))
+
+/* Reads a symbol and writes its text, with the suffix. */
+void swift_demangle(const uint8_t *text, size_t text_length, size_t ceiling, uint32_t *workspace, size_t workspace_length, uint8_t *out,
+                    size_t out_length, uint64_t answer[SWIFT_ANSWER_SIZE]);
+
+/* Reads a type and writes its text. */
+void swift_demangle_type(const uint8_t *text, size_t text_length, size_t ceiling, uint32_t *workspace, size_t workspace_length, uint8_t *out,
+                         size_t out_length, uint64_t answer[SWIFT_ANSWER_SIZE]);
+
+/* Checks a symbol's shape: the same number, place and counts as the reading, in an eighth of the workspace, and no text. */
+void swift_shape(const uint8_t *text, size_t text_length, size_t ceiling, uint32_t *workspace, size_t workspace_length,
+                 uint64_t answer[SWIFT_ANSWER_SIZE]);
+
+/* Checks a type's shape. */
+void swift_shape_type(const uint8_t *text, size_t text_length, size_t ceiling, uint32_t *workspace, size_t workspace_length,
+                      uint64_t answer[SWIFT_ANSWER_SIZE]);
+
+/* The four stopped after k operators. */
+void swift_demangle_stopped(const uint8_t *text, size_t text_length, size_t ceiling, size_t k, uint32_t *workspace, size_t workspace_length,
+                            uint32_t *out, size_t out_length, uint64_t answer[SWIFT_ANSWER_SIZE]);
+void swift_demangle_type_stopped(const uint8_t *text, size_t text_length, size_t ceiling, size_t k, uint32_t *workspace,
+                                 size_t workspace_length, uint32_t *out, size_t out_length, uint64_t answer[SWIFT_ANSWER_SIZE]);
+void swift_shape_stopped(const uint8_t *text, size_t text_length, size_t ceiling, size_t k, uint32_t *workspace, size_t workspace_length,
+                         uint32_t *out, size_t out_length, uint64_t answer[SWIFT_ANSWER_SIZE]);
+void swift_shape_type_stopped(const uint8_t *text, size_t text_length, size_t ceiling, size_t k, uint32_t *workspace, size_t workspace_length,
+                              uint32_t *out, size_t out_length, uint64_t answer[SWIFT_ANSWER_SIZE]);
+
+#ifdef __cplusplus
+}
+#endif
+
+#endif
