@@ -15,7 +15,7 @@ use Rattle.definition.specs.declared.Refusal.{Refusal}
 use Rattle.entries.specs.Lies.{machine-of, taken-of, load}
 use Rattle.entries.specs.Answers.{Refuses}
 use Rattle.entries.specs.Means.{take-of}
-use Rattle.takes.specs.Step.{take-step, grows, resets, Ready, Goes, Takes}
+use Rattle.taken.specs.Step.{take-step, grows, resets, Ready, Goes, Takes}
 use Rattle.entries.proofs.Top.{held-less}
 use Rattle.takes.proofs.OneTake.{taking-step}
 use Rattle.entries.specs.declared.State.{State}

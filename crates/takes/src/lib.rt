@@ -1,19 +1,12 @@
 // What a row of the shape check takes off the stack.
-ghost use mathlib.Core.Path.{_≡_};
 ghost use mathlib.Core.Bool.{true, false};
 ghost use mathlib.Core.List.{List};
-ghost use Prim.Native.Nat.{ℕ, _+_, _^_, _≤_};
-ghost use Rattle.definition.specs.Machine as M;
+ghost use Prim.Native.Nat.{ℕ};
 ghost use Rattle.definition.specs.Shape as C;
-ghost use Rattle.entries.specs.Lies.{entry-of, taken-of, Held};
 ghost use Rattle.kinds.specs.Wanted.{want-of};
-ghost use Rattle.entries.specs.Answers.{Moving};
 ghost use Rattle.entries.specs.Means.{take-of};
-ghost use Rattle.takes.specs.Step.{one-label, grows, kept-of, Ready, Sets, Takes};
-use budget::Spent;
+ghost use Rattle.taken.specs.Step.{grows, Ready, Takes};
 use definition::Refusal;
-use entries::Entry;
-use entries::Moved;
 use entries::Popped;
 use entries::State;
 use entries::Take;
@@ -21,7 +14,6 @@ use entries::Taken;
 use entries::Taking;
 use entries::Tried;
 use entries::context;
-use entries::pop;
 use entries::pop_if;
 use entries::pop_name;
 use entries::protocol;
@@ -31,139 +23,14 @@ use entries::try_take;
 use kinds::Want;
 use lists::Series;
 use lists::gather;
-
-// Labels
-
-// One label, or the marker where there is none.
-fn label(ws: &[u32], st: State) -> Moved
-    requires { ⌜ Held (now ws) st ⌝ }
-    ensures { λ r. ⌜ Moving one-label (now (ws .entry)) st r ⌝ }
-{
-    match pop(ws, st) {
-        Popped::Top(e, next) => {
-            if e.kind == 0 {
-                return Moved::To(next);
-            }
-            if e.kind == 31 {
-                return Moved::To(next);
-            }
-            Moved::Refused(Refusal::Stack)
-        }
-        Popped::Refused(r) => Moved::Refused(r),
-    }
-}
-
-// So many labels.
-fn labels(ws: &[u32], st: State, count: usize) -> Moved
-    requires { ⌜ Held (now ws) st ⌝ }
-    ensures { λ r. ⌜ Moving (C.labels-from count) (now (ws .entry)) st r ⌝ }
-{
-    let mut left = st;
-    let mut more = count;
-    while 0 < more {
-        match label(ws, left) {
-            Moved::To(next) => {
-                left = next;
-            }
-            Moved::Refused(r) => {
-                return Moved::Refused(r);
-            }
-        }
-        more -= 1;
-    }
-    Moved::To(left)
-}
-
-// Takes
-
-// One more entry.
-fn add(a: Taken, e: Entry) -> Taken
-    requires { ⌜ a .size ≤ 2 ^ 20 ⌝ }
-    ensures { λ r. ⌜ taken-of r ≡ C.add (entry-of e) (taken-of a) ⌝ }
-{
-    Taken {
-        size: e.size as usize + a.size,
-        count: a.count,
-        signed: a.signed,
-    }
-}
-
-// The parameters' side: those of a tuple are counted, else it is one.
-fn add_params(a: Taken, e: Entry) -> Taken
-    requires { ⌜ a .size ≤ 2 ^ 20 ⌝ }
-    ensures { λ r. ⌜ Sets (C.add-params (entry-of e) (taken-of a)) r ⌝ }
-{
-    let size = e.size as usize + a.size;
-    if e.kind == 9 {
-        return Taken {
-            size,
-            count: e.count as usize,
-            signed: a.signed,
-        };
-    }
-    Taken {
-        size,
-        count: 1,
-        signed: a.signed,
-    }
-}
-
-// A type: the parameters of a function type are counted.
-fn add_labelled(a: Taken, e: Entry) -> Taken
-    requires { ⌜ a .size ≤ 2 ^ 20 ⌝ }
-    ensures { λ r. ⌜ Sets (C.add-labelled (entry-of e) (taken-of a)) r ⌝ }
-{
-    let size = e.size as usize + a.size;
-    if e.kind == 10 {
-        return Taken {
-            size,
-            count: e.count as usize,
-            signed: a.signed,
-        };
-    }
-    Taken {
-        size,
-        count: 0,
-        signed: a.signed,
-    }
-}
-
-// A signature, under which the type is one node more.
-fn sign(a: Taken, e: Entry) -> Taken
-    requires { ⌜ a .size ≤ 2 ^ 20 ⌝ }
-    ensures { λ r. ⌜ taken-of r ≡ C.taken (1 + (e .size + a .size)) (a .count) true ⌝ }
-{
-    Taken {
-        size: 1 + (e.size as usize + a.size),
-        count: a.count,
-        signed: true,
-    }
-}
-
-fn kept(m: Moved, a: Taken) -> Taking
-    ensures { λ r. ⌜ r ≡ kept-of m a ⌝ }
-{
-    match m {
-        Moved::To(next) => Taking::Went(a, next),
-        Moved::Refused(r) => Taking::Refused(r),
-    }
-}
-
-// A wrap is counted.
-fn wrapped(st: State) -> Moved
-    ensures { λ r. ⌜ ((w : List ℕ) → Moving M.wrap w st r) ⌝ }
-{
-    let budget = st.budget;
-    match budget.wrap() {
-        Spent::Left(left) => Moved::To(State {
-            budget: left,
-            depth: st.depth,
-            seen: st.seen,
-            words: st.words,
-        }),
-        Spent::Refused(r) => Moved::Refused(r),
-    }
-}
+use taken::add;
+use taken::add_labelled;
+use taken::add_params;
+use taken::kept;
+use taken::labels;
+use taken::sign;
+use taken::take_printed_ahead;
+use taken::wrapped;
 
 fn take_wraps(st: State, a: Taken) -> Taking
     ensures { λ r. ⌜ ((w : List ℕ) → Takes C.wraps w st a r) ⌝ }
@@ -323,19 +190,6 @@ fn take_requirements(ws: &[u32], st: State, a: Taken) -> Taking
     ensures { λ r. ⌜ Takes C.requirements (now (ws .entry)) st a r ⌝ }
 {
     gather(ws, st, a, Series::Requirements)
-}
-
-fn take_printed_ahead(st: State, a: Taken) -> Taking
-    ensures { λ r. ⌜ ((w : List ℕ) → Takes C.printed-ahead w st a r) ⌝ }
-{
-    Taking::Went(
-        Taken {
-            size: 0,
-            count: a.count,
-            signed: a.signed,
-        },
-        st,
-    )
 }
 
 fn take_refuses(st: State, a: Taken) -> Taking

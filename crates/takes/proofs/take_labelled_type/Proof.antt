@@ -1,7 +1,7 @@
 -- `takes::take_labelled_type` meets its contract. Assumes nothing.
 use mathlib.Core.Path.{refl}
 use Rattle.definition.specs.Shape as C
-use Rattle.takes.specs.Step.{take-step}
+use Rattle.taken.specs.Step.{take-step}
 use Rattle.entries.proofs.Steps.{popped-top, popped-refused, refuses}
 use Rattle.takes.proofs.OneTake.{counted}
 use borrow.Author.Needs.{needs}

@@ -1,6 +1,6 @@
 -- `takes::take_one` meets its contract. Assumes nothing.
 use mathlib.Core.Path.{sym, subst}
-use Rattle.takes.specs.Step.{grows, Ready, Takes}
+use Rattle.taken.specs.Step.{grows, Ready, Takes}
 use Rattle.entries.specs.Means.{take-of}
 use Rattle.entries.specs.declared.Take.{Take}
 use Rattle.takes.proofs.OneTake.{ready-less}

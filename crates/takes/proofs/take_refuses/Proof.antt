@@ -1,6 +1,6 @@
 -- `takes::take_refuses` meets its contract. Assumes nothing.
 use Rattle.definition.specs.Enums.{number}
-use Rattle.takes.specs.Step.{take-step}
+use Rattle.taken.specs.Step.{take-step}
 use mathlib.Core.Path.{refl}
 use Rattle.takes.proofs.take_refuses.Statement.{statement}
 use Rattle.takes.proofs.take_refuses.Tie as tie

@@ -1,6 +1,6 @@
 -- `takes::take_signature` meets its contract. Assumes nothing.
 use Rattle.entries.proofs.Steps.{tried-top, tried-nothing}
-use Rattle.takes.proofs.OneTake.{signed-by, not-signed}
+use Rattle.taken.proofs.Adding.{signed-by, not-signed}
 use borrow.Author.Needs.{needs}
 use Rattle.takes.proofs.take_signature.Statement.{statement}
 use Rattle.takes.proofs.take_signature.Tie as tie

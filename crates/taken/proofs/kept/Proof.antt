@@ -1,7 +1,7 @@
--- `takes::kept` meets its contract. Assumes nothing.
+-- `taken::kept` meets its contract. Assumes nothing.
 use borrow.Author.Needs.{needs}
-use Rattle.takes.proofs.kept.Statement.{statement}
-use Rattle.takes.proofs.kept.Tie as tie
+use Rattle.taken.proofs.kept.Statement.{statement}
+use Rattle.taken.proofs.kept.Tie as tie
 
 enum-known-m : tie.Need-enum-known-m
 enum-known-m c = search needs

@@ -1,11 +1,11 @@
--- `takes::wrapped` meets its contract. Assumes nothing.
+-- `taken::wrapped` meets its contract. Assumes nothing.
 use mathlib.Core.Path.{subst}
 use Rattle.definition.specs.Budget as B
 use Rattle.budget.specs.Spent.{Spending, budget-of}
-use Rattle.takes.proofs.OneTake.{wrapped-left, wrapped-refused}
+use Rattle.taken.proofs.Adding.{wrapped-left, wrapped-refused}
 use borrow.Author.Needs.{needs}
-use Rattle.takes.proofs.wrapped.Statement.{statement}
-use Rattle.takes.proofs.wrapped.Tie as tie
+use Rattle.taken.proofs.wrapped.Statement.{statement}
+use Rattle.taken.proofs.wrapped.Tie as tie
 
 wrap-requires : tie.Need-wrap-requires
 wrap-requires c κs = search needs

@@ -1,9 +1,9 @@
--- `takes::label` meets its contract. Assumes nothing.
+-- `taken::label` meets its contract. Assumes nothing.
 use Rattle.entries.proofs.Steps.{popped-top, popped-refused, refuses}
-use Rattle.takes.proofs.OneTake.{label-name, label-marker, label-other}
+use Rattle.taken.proofs.Adding.{label-name, label-marker, label-other}
 use borrow.Author.Needs.{needs}
-use Rattle.takes.proofs.label.Statement.{statement}
-use Rattle.takes.proofs.label.Tie as tie
+use Rattle.taken.proofs.label.Statement.{statement}
+use Rattle.taken.proofs.label.Tie as tie
 
 pop-requires : tie.Need-pop-requires
 pop-requires c κs = search needs

@@ -1,7 +1,7 @@
--- `takes::sign` meets its contract. Assumes nothing.
+-- `taken::sign` meets its contract. Assumes nothing.
 use borrow.Author.Needs.{needs}
-use Rattle.takes.proofs.sign.Statement.{statement}
-use Rattle.takes.proofs.sign.Tie as tie
+use Rattle.taken.proofs.sign.Statement.{statement}
+use Rattle.taken.proofs.sign.Tie as tie
 
 cast-t3 : tie.Need-cast-t3
 cast-t3 c = search needs

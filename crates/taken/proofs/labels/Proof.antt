@@ -1,12 +1,12 @@
--- `takes::labels` meets its contract. Assumes nothing.
+-- `taken::labels` meets its contract. Assumes nothing.
 use native.Mathlib.Omega.{arith}
 use borrow.Author.Needs.{needs}
 use mathlib.Core.Path.{_≡_}
 use Rattle.entries.proofs.Top.{held-less}
 use Rattle.entries.proofs.Steps.{moved-to, moved-refused}
-use Rattle.takes.proofs.OneTake.{Labelled, labels-start, labels-more, labels-fail, labels-end}
-use Rattle.takes.proofs.labels.Statement.{statement}
-use Rattle.takes.proofs.labels.Tie as tie
+use Rattle.taken.proofs.Adding.{Labelled, labels-start, labels-more, labels-fail, labels-end}
+use Rattle.taken.proofs.labels.Statement.{statement}
+use Rattle.taken.proofs.labels.Tie as tie
 
 abbrev Inv-loop : tie.InvT-loop
 Inv-loop ws count left₀ more₀ left more = Labelled ws left₀ more₀ left more

@@ -1,10 +1,10 @@
--- `takes::add_params` meets its contract. Assumes nothing.
+-- `taken::add_params` meets its contract. Assumes nothing.
 use native.Mathlib.Omega.{arith}
 use borrow.Author.Tests.{eq-eqb, ne-eqb}
 use Rattle.definition.specs.Shape as C
 use borrow.Author.Needs.{needs}
-use Rattle.takes.proofs.add_params.Statement.{statement}
-use Rattle.takes.proofs.add_params.Tie as tie
+use Rattle.taken.proofs.add_params.Statement.{statement}
+use Rattle.taken.proofs.add_params.Tie as tie
 
 cast-size : tie.Need-cast-size
 cast-size c = search needs
