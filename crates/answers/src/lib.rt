@@ -9,7 +9,7 @@ ghost use Rattle.definition.specs.Reading as Reading;
 ghost use Rattle.budget.specs.Spent.{budget-of};
 ghost use Rattle.nodes.specs.Gives.{Beyond};
 ghost use Rattle.runs.specs.Ends.{kinds-of};
-ghost use Rattle.shape.specs.Performs.{Outside};
+ghost use Rattle.stores.specs.Stores.{Outside};
 ghost use Rattle.symbols.specs.Symbol as Symbols;
 ghost use Rattle.answers.specs.Answers.{Answers, Held, Finishes, Measured, Stacked};
 use budget::Budget;

@@ -12,10 +12,11 @@ use Rattle.definition.specs.declared.Refusal.{Refusal}
 use Rattle.text.specs.declared.Cursor.{Cursor}
 use Rattle.entries.specs.Lies.{machine-of}
 use Rattle.entries.specs.declared.State.{State}
-use Rattle.shape.specs.Performs.{Wrote, Failed, Performing, Sound}
-use Rattle.shape.specs.declared.Step.{Step}
-use Rattle.shape.specs.declared.Step.the-variants as Step
-use Rattle.shape.proofs.Stores.{outside-none}
+use Rattle.stores.specs.Stores.{Wrote, Failed, Performing}
+use Rattle.shape.specs.Performs.{Sound}
+use Rattle.stores.specs.declared.Step.{Step}
+use Rattle.stores.specs.declared.Step.the-variants as Step
+use Rattle.stores.proofs.Stores.{outside-none}
 use Rattle.check_turns.specs.Turns.{Reaches, Refuses, Turning, Performed}
 use Rattle.check_turns.specs.declared.Turned.{Turned}
 use Rattle.check_turns.specs.declared.Turned.the-variants as Turned

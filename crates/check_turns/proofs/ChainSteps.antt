@@ -22,8 +22,9 @@ use Rattle.substitutions.specs.Chain.{Chain, ended, more, chain, outcome, Same,
 use Rattle.substitutions.specs.declared.SubstitutionRead.{SubstitutionRead}
 use Rattle.substitutions.specs.declared.SubstitutionRead.the-variants as SubstitutionRead
 use Rattle.runs.proofs.Turns.{regroup}
-use Rattle.shape.specs.Performs.{Outside, Wrote, Failed, Sound, recall-copies}
-use Rattle.shape.proofs.Stores.{outside-both, outside-none}
+use Rattle.stores.specs.Stores.{Outside, Wrote, Failed}
+use Rattle.shape.specs.Performs.{Sound, recall-copies}
+use Rattle.stores.proofs.Stores.{outside-both, outside-none}
 use Rattle.shape.proofs.Leaves.{sound-seen}
 use Rattle.shape.proofs.Recalls.{not-recalled}
 use Rattle.shape.proofs.Sounds.{sound-recall}

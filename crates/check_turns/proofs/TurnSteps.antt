@@ -19,7 +19,7 @@ use Rattle.budget.specs.declared.Spent.the-variants as Spent
 use Rattle.entries.specs.Lies.{machine-of}
 use Rattle.entries.specs.declared.State.{State}
 use Rattle.shape.specs.Performs.{Sound}
-use Rattle.shape.proofs.Stores.{outside-none}
+use Rattle.stores.proofs.Stores.{outside-none}
 use Rattle.check_turns.specs.Turns.{Refuses}
 
 -- after a match

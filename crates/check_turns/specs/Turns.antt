@@ -15,7 +15,8 @@ use Rattle.text.specs.declared.Cursor.{Cursor}
 use Rattle.entries.specs.Lies.{machine-of}
 use Rattle.entries.specs.declared.State.{State}
 use Rattle.substitutions.specs.Chain.{chain, outcome}
-use Rattle.shape.specs.Performs.{Outside, Wrote, Failed, Sound}
+use Rattle.stores.specs.Stores.{Outside, Wrote, Failed}
+use Rattle.shape.specs.Performs.{Sound}
 use Rattle.check_turns.specs.declared.Turned.{Turned}
 use Rattle.check_turns.specs.declared.Turned.the-variants as Turned
 use Rattle.check_turns.specs.declared.Letter.{Letter}

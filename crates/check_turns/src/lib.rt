@@ -15,7 +15,7 @@ use definition::Refusal;
 use entries::State;
 use identifiers::CountRead;
 use letters::OperatorRead;
-use shape::Step;
+use stores::Step;
 use substitutions::SubstitutionRead;
 use text::Cursor;
 

@@ -20,8 +20,9 @@ use Rattle.text.specs.declared.Cursor.{Cursor}
 use Rattle.entries.specs.Lies.{machine-of, stack-of, seen-of}
 use Rattle.entries.specs.declared.State.{State}
 use Rattle.runs.proofs.Turns.{over, no-more, goes-on, stops}
-use Rattle.shape.specs.Performs.{Outside, Sound}
-use Rattle.shape.proofs.Stores.{outside-both, outside-none}
+use Rattle.stores.specs.Stores.{Outside}
+use Rattle.shape.specs.Performs.{Sound}
+use Rattle.stores.proofs.Stores.{outside-both, outside-none}
 use Rattle.check_turns.specs.Turns.{Reaches, Refuses, Turning}
 use Rattle.checking.specs.Runs.{check, Ran, Stopped}
 use Rattle.check_turns.specs.declared.Turned.{Turned}

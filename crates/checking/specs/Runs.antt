@@ -12,7 +12,8 @@ use Rattle.definition.specs.Enums.{number}
 use Rattle.definition.specs.declared.Refusal.{Refusal}
 use Rattle.entries.specs.Lies.{machine-of}
 use Rattle.entries.specs.declared.State.{State}
-use Rattle.shape.specs.Performs.{Outside, Sound}
+use Rattle.stores.specs.Stores.{Outside}
+use Rattle.shape.specs.Performs.{Sound}
 use Rattle.checking.specs.declared.Ended.{Ended}
 use Rattle.checking.specs.declared.Ended.the-variants as Ended
 

@@ -5,23 +5,19 @@ use mathlib.Core.List.{List, [], _∷_}
 use Prim.Native.Nat.{ℕ, zero, suc, _+_, _*_, _-_, _≤_, _<_}
 use Prim.Native.String.{String}
 use native.Mathlib.Omega.{arith}
-use native.Mathlib.Nat.{le-trans, le-of-eq, one-mul, mul-le-mul-right, not-suc-le-zero, le-of-suc-le-suc}
+use native.Mathlib.Nat.{not-suc-le-zero, le-of-suc-le-suc}
 use borrow.Author.Tests.{leb-true}
 use lib.Dec.{eqb, leb}
 use lib.ListN.{length, length-append, getD}
-use Rattle.definition.specs.Base.{if_then_else_, Out, ok, refused, Done, ret, and-then}
+use Rattle.definition.specs.Base.{if_then_else_, Out, Done, ret, and-then}
 use Rattle.definition.specs.Kind as K
-use Rattle.definition.specs.Budget as B
 use Rattle.definition.specs.Machine as M
-use Rattle.definition.specs.Machine.{spent, spend}
 use Rattle.definition.specs.Shape as C
 use Rattle.definition.specs.Shape.{Shapes, Check}
 use Rattle.definition.specs.Check as Ch
 use Rattle.definition.specs.Enums as Enums
-use Rattle.definition.specs.Enums.{number}
 use Rattle.definition.specs.declared.Refusal.{Refusal}
 use Rattle.definition.specs.declared.Operator.{Operator}
-use Rattle.budget.specs.Spent.{budget-of}
 use Rattle.budget.specs.declared.Budget.{Budget}
 use Rattle.entries.specs.Lies.{machine-of, seen-of, entry-of, entry-at, taken-of}
 use Rattle.entries.proofs.Top.{length-stack}
@@ -31,13 +27,14 @@ use Rattle.entries.specs.declared.Taken.{Taken}
 use Rattle.entries.specs.declared.Taking.{Taking}
 use Rattle.entries.specs.declared.Taking.the-variants as Taking
 use Rattle.rows.specs.Table.{kinds, own, counted, row-takes, row-leaves, copies-of, row-of, times-of}
-use Rattle.shape.specs.Performs.{Light, RowWent, RowRefused, RowTaking, Wrote, Failed, Performing, Remembered, LeftBy, put, Puts, Roomy, Sound}
+use Rattle.shape.specs.Performs.{Light, RowWent, RowRefused, RowTaking, LeftBy, put, Puts, Roomy, Sound}
+use Rattle.stores.specs.Stores.{Wrote, Failed, Performing, Remembered}
 use Rattle.rows.proofs.Rows.{row-is}
-use Rattle.shape.proofs.Stores.{outside-both, outside-none}
+use Rattle.stores.proofs.Stores.{outside-both, outside-none}
 use Rattle.rows.specs.declared.Copies.{Copies}
 use Rattle.rows.specs.declared.Copies.the-variants as Copies
-use Rattle.shape.specs.declared.Step.{Step}
-use Rattle.shape.specs.declared.Step.the-variants as Step
+use Rattle.stores.specs.declared.Step.{Step}
+use Rattle.stores.specs.declared.Step.the-variants as Step
 
 -- every row leaves one node of its own at least, and five at the most
 and-left : (a b : Bool) → (a && b) ≡ true → a ≡ true
@@ -85,28 +82,6 @@ module _ (row : ℕ) (a : Taken) {k n : ℕ} (p : k ≡ getD kinds row 0) (q : n
   left-uncounted e c =
       ap (λ (x : ℕ). K.entry x (n + a .size) 0) p ∙ (ap (λ (x : ℕ). K.entry (getD kinds row 0) (x + a .size) 0) q
       ∙ ap (λ (b : Bool). K.entry (getD kinds row 0) (getD own row 0 + a .size) (if b then a .count else 0)) (sym e))
-
--- COPIES
--- a charge that went leaves room for what was charged
-pub charge-room : (N n : ℕ) (b c : B.Budget) → B.charge N n b ≡ ok tt c → b .total + n ≤ N
-unfolding B.charge
-charge-room N n b c q = go (leb (b .total + n) N) refl q
-  where
-    go : (x : Bool) → leb (b .total + n) N ≡ x → _≡_ {A = Out B.Budget Done} (if x then ok tt (B.budget (b .steps) (b .total + n) (b .wraps)) else refused 7) (ok tt c) → b .total + n ≤ N
-    go true e q = leb-true (b .total + n) N e
-    go false e q = absurd (let z : _≡_ {A = ℕ} 0 1 = cc in omega arith)
-
-pub copies-le : (size copies : ℕ) → 1 ≤ size → copies ≤ size * copies
-copies-le size copies h = le-trans (le-of-eq (sym (one-mul copies))) (mul-le-mul-right copies h)
-
-module _ {N : ℕ} {w w₁ : List ℕ} (st : State) (e : Entry) (times : ℕ) where
-  pub copied-done : (b : Budget) {u : State} → B.charge N (e .size * times) (budget-of (st .budget)) ≡ ok tt (budget-of b) → Wrote (M.push-copies times (entry-of e)) N w w₁ (record { budget = b; depth = st .depth; seen = st .seen; words = st .words }) u → Wrote (C.copied N times (entry-of e)) N w w₁ st u
-  unfolding C.copied spend
-  copied-done b q h = record { is = ap (λ (o : Out B.Budget Done). and-then (spent o (machine-of w N st)) (λ x. M.push-copies times (entry-of e))) q ∙ h .is; outside = h .outside }
-
-pub copied-refused : {N : ℕ} {w : List ℕ} (st : State) (e : Entry) (times : ℕ) (r : Refusal) → B.charge N (e .size * times) (budget-of (st .budget)) ≡ refused (number r) → Failed (C.copied N times (entry-of e)) N w w st r
-unfolding C.copied spend
-copied-refused {N} {w} st e times r q = record { is = ap (λ (o : Out B.Budget Done). and-then (spent o (machine-of w N st)) (λ x. M.push-copies times (entry-of e))) q; outside = outside-none }
 
 -- PUTS
 module _ (N : ℕ) (w w₁ : List ℕ) (st : State) (e : K.Entry) where

@@ -19,11 +19,12 @@ use Rattle.entries.specs.declared.Entry.{Entry}
 use Rattle.entries.specs.declared.State.{State}
 use Rattle.definition.specs.Enums.{number}
 use Rattle.definition.specs.declared.Refusal.the-variants.{Spelling}
-use Rattle.shape.specs.Performs.{Performing, Failed, Sound, recall-copies}
-use Rattle.shape.proofs.Stores.{outside-none}
+use Rattle.stores.specs.Stores.{Performing, Failed}
+use Rattle.shape.specs.Performs.{Sound, recall-copies}
+use Rattle.stores.proofs.Stores.{outside-none}
 use Rattle.shape.proofs.Leaves.{length-seen}
-use Rattle.shape.specs.declared.Step.{Step}
-use Rattle.shape.specs.declared.Step.the-variants as Step
+use Rattle.stores.specs.declared.Step.{Step}
+use Rattle.stores.specs.declared.Step.the-variants as Step
 
 get-front : (xs ys : List K.Entry) (i : ℕ) → i < length xs → getElem? (xs ++ ys) i ≡ getElem? xs i
 get-front [] ys i h = absurd (not-suc-le-zero h)

@@ -12,7 +12,8 @@ use Rattle.definition.specs.Operators as Op
 use Rattle.definition.proofs.Room.{Fits, row-keeps, row-total, name-keeps, recall-keeps, recall-total}
 use Rattle.entries.specs.Lies.{machine-of}
 use Rattle.entries.specs.declared.State.{State}
-use Rattle.shape.specs.Performs.{Wrote, Sound, recall-copies}
+use Rattle.stores.specs.Stores.{Wrote}
+use Rattle.shape.specs.Performs.{Sound, recall-copies}
 
 module _ {j N : ℕ} {w : List ℕ} {st : State} {f : Check Done} {w₁ : List ℕ} {u : State} (s : Sound j N w st) (h : Wrote f N w w₁ st u) where
   settled : Fits 0 (machine-of w₁ N u) → u .budget .total ≤ N → Sound 0 N w₁ u

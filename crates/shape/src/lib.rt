@@ -1,14 +1,12 @@
 // The shape check's one interpreter, and what a row leaves. The stack's entries stand in the lent workspace
 // from place 0 on, the remembered ones from place N on, three numbers each.
 ghost use Prim.Native.Nat.{_+_, _-_, _*_, _^_, _≤_, _<_};
-ghost use lib.ListN.{length};
 ghost use Rattle.rows.specs.Table.{row-leaves};
 ghost use Rattle.entries.specs.Lies.{entry-of, taken-of};
 ghost use Rattle.definition.specs.Check as Ch;
-ghost use Rattle.definition.specs.Machine as M;
 ghost use Rattle.definition.specs.Shape as C;
-ghost use Rattle.shape.specs.Performs.{Light, RowTaking, Stored, Performing, Wrote, Remembered, LeftBy, put, recall-copies, Puts, Roomy, Sound, Performs};
-use budget::Spent;
+ghost use Rattle.shape.specs.Performs.{Light, RowTaking, LeftBy, put, recall-copies, Puts, Roomy, Sound, Performs};
+ghost use Rattle.stores.specs.Stores.{Performing, Wrote};
 use definition::Operator;
 use definition::Refusal;
 use entries::Entry;
@@ -24,12 +22,10 @@ use rows::own_of;
 use rows::remembers;
 use rows::row_of;
 use rows::times_of;
-
-// The state after a step, or its refusal.
-pub enum Step {
-    Done(State),
-    Refused(Refusal),
-}
+use stores::Step;
+use stores::copied;
+use stores::push;
+use stores::remember;
 
 // The interpreter
 
@@ -66,76 +62,6 @@ fn take_row(ws: &[u32], st: State, row: usize) -> Taking
 }
 
 // What is written
-
-fn store(ws: &mut [u32], i: usize, e: Entry)
-    requires { ⌜ 3 * i + 3 ≤ length (now ws) ⌝ }
-    ensures { λ r. ⌜ Stored (now (ws .entry)) (now (ws .exit)) i e ⌝ }
-{
-    ws[3 * i] = e.kind;
-    ws[3 * i + 1] = e.size;
-    ws[3 * i + 2] = e.count;
-}
-
-// One more on the stack.
-fn push(ws: &mut [u32], ceiling: usize, st: State, e: Entry) -> State
-    requires { ⌜ (8 * ceiling ≤ length (now ws)) × (st .depth < ceiling) ⌝ }
-    ensures { λ r. ⌜ Wrote (M.push (entry-of e)) ceiling (now (ws .entry)) (now (ws .exit)) st r ⌝ }
-{
-    let depth = st.depth;
-    store(ws, depth, e);
-    let mut next = st;
-    next.depth = depth + 1;
-    next
-}
-
-// One more remembered.
-fn remember(ws: &mut [u32], ceiling: usize, st: State, e: Entry) -> State
-    requires { ⌜ (8 * ceiling ≤ length (now ws)) × (st .seen < ceiling) × (st .depth ≤ ceiling) ⌝ }
-    ensures { λ r. ⌜ Remembered (M.remember (entry-of e)) ceiling (now (ws .entry)) (now (ws .exit)) st r ⌝ }
-{
-    let seen = st.seen;
-    store(ws, ceiling + seen, e);
-    let mut next = st;
-    next.seen = seen + 1;
-    next
-}
-
-// So many of an entry on the stack.
-fn push_copies(ws: &mut [u32], ceiling: usize, st: State, times: usize, e: Entry) -> State
-    requires { ⌜ (8 * ceiling ≤ length (now ws)) × (st .depth + times ≤ ceiling) ⌝ }
-    ensures { λ r. ⌜ Wrote (M.push-copies times (entry-of e)) ceiling (now (ws .entry)) (now (ws .exit)) st r ⌝ }
-{
-    let mut next = st;
-    let mut i = 0;
-    while i < times {
-        let depth = next.depth;
-        store(ws, depth, e);
-        next.depth = depth + 1;
-        i += 1;
-    }
-    next
-}
-
-// So many copies of an entry, each charged its size.
-fn copied(ws: &mut [u32], ceiling: usize, st: State, times: usize, e: Entry) -> Step
-    requires { ⌜ (8 * ceiling ≤ length (now ws)) × (ceiling ≤ 65536) × (st .depth ≤ st .budget .total) × (1 ≤ e .size) ⌝ }
-    ensures { λ r. ⌜ Performing (C.copied ceiling times (entry-of e)) ceiling (now (ws .entry)) (now (ws .exit)) st r ⌝ }
-{
-    let budget = st.budget;
-    let size = e.size as usize;
-    match budget.charge_copies(ceiling, size, times) {
-        Spent::Left(left) => {
-            let next = State {
-                budget: left,
-                depth: st.depth,
-                seen: st.seen,
-                words: st.words,
-            };
-            Step::Done(push_copies(ws, ceiling, next, times, e))
-        }
-        Spent::Refused(r) => Step::Refused(r),
-    }
-}
 
 // An entry on the stack, once and not charged, or so many copies of it.
 fn put_on(ws: &mut [u32], ceiling: usize, st: State, copies: Copies, e: Entry) -> Step

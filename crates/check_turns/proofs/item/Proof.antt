@@ -3,7 +3,8 @@ use mathlib.Core.Path.{subst}
 use lib.ListN.{drop}
 use Rattle.substitutions.specs.Chain.{chain, Copied}
 use Rattle.substitutions.specs.declared.SubstitutionRead.the-variants as SubstitutionRead
-use Rattle.shape.specs.Performs.{Wrote, recall-copies}
+use Rattle.stores.specs.Stores.{Wrote}
+use Rattle.shape.specs.Performs.{recall-copies}
 use Rattle.check_turns.proofs.Answers.{was-done, was-not-done}
 use Rattle.check_turns.proofs.ChainSteps.{item-more, item-last, item-fails, item-broken}
 use borrow.Author.Needs.{needs}

@@ -1,10 +1,10 @@
--- `shape::store` meets its contract. Assumes nothing.
+-- `stores::store` meets its contract. Assumes nothing.
 use native.Mathlib.Omega.{arith}
 use lib.ListN.{length-set}
-use Rattle.shape.proofs.Stores.{stored}
+use Rattle.stores.proofs.Stores.{stored}
 use borrow.Author.Needs.{needs}
-use Rattle.shape.proofs.store.Statement.{statement}
-use Rattle.shape.proofs.store.Tie as tie
+use Rattle.stores.proofs.store.Statement.{statement}
+use Rattle.stores.proofs.store.Tie as tie
 
 mul-ws : tie.Need-mul-ws
 mul-ws c = search needs

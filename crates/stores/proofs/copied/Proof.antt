@@ -1,13 +1,13 @@
--- `shape::copied` meets its contract. Assumes nothing.
+-- `stores::copied` meets its contract. Assumes nothing.
 use mathlib.Core.Path.{subst}
 use native.Mathlib.Omega.{arith}
 use Prim.Native.Nat.{_*_}
 use Rattle.definition.specs.Budget as B
 use Rattle.budget.specs.Spent.{Spending, budget-of}
-use Rattle.shape.proofs.Leaves.{charge-room, copies-le, copied-done, copied-refused}
+use Rattle.stores.proofs.Copying.{charge-room, copies-le, copied-done, copied-refused}
 use borrow.Author.Needs.{needs}
-use Rattle.shape.proofs.copied.Statement.{statement}
-use Rattle.shape.proofs.copied.Tie as tie
+use Rattle.stores.proofs.copied.Statement.{statement}
+use Rattle.stores.proofs.copied.Tie as tie
 
 cast-size : tie.Need-cast-size
 cast-size c = search needs

@@ -1,8 +1,8 @@
--- `shape::push` meets its contract. Assumes nothing.
-use Rattle.shape.proofs.Stores.{pushed}
+-- `stores::push` meets its contract. Assumes nothing.
+use Rattle.stores.proofs.Stores.{pushed}
 use borrow.Author.Needs.{needs}
-use Rattle.shape.proofs.push.Statement.{statement}
-use Rattle.shape.proofs.push.Tie as tie
+use Rattle.stores.proofs.push.Statement.{statement}
+use Rattle.stores.proofs.push.Tie as tie
 
 store-requires : tie.Need-store-requires
 store-requires c κs = search needs

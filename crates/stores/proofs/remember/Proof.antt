@@ -1,10 +1,10 @@
--- `shape::remember` meets its contract. Assumes nothing.
+-- `stores::remember` meets its contract. Assumes nothing.
 use native.Mathlib.Omega.{arith}
 use mathlib.Core.Path.{refl}
-use Rattle.shape.proofs.Stores.{remembered-is}
+use Rattle.stores.proofs.Stores.{remembered-is}
 use borrow.Author.Needs.{needs}
-use Rattle.shape.proofs.remember.Statement.{statement}
-use Rattle.shape.proofs.remember.Tie as tie
+use Rattle.stores.proofs.remember.Statement.{statement}
+use Rattle.stores.proofs.remember.Tie as tie
 
 add-store : tie.Need-add-store
 add-store c = search needs

@@ -10,14 +10,13 @@ use Rattle.definition.specs.Base.{ok}
 use Rattle.definition.specs.Kind as K
 use Rattle.definition.specs.Budget as B
 use Rattle.definition.specs.Machine as M
-use Rattle.definition.specs.Shape as C
 use Rattle.definition.specs.Shape.{Shapes}
 use Rattle.budget.specs.Spent.{budget-of}
 use Rattle.budget.specs.declared.Budget.{Budget}
 use Rattle.entries.specs.Lies.{stack-of, seen-of, entry-of, entry-at}
 use Rattle.entries.specs.declared.Entry.{Entry}
 use Rattle.entries.specs.declared.State.{State}
-use Rattle.shape.specs.Performs.{Stored, Outside, Wrote}
+use Rattle.stores.specs.Stores.{Stored, Outside, Wrote}
 
 entry-same : {a b d a₁ b₁ d₁ : ℕ} → a ≡ a₁ → b ≡ b₁ → d ≡ d₁ → K.entry a b d ≡ K.entry a₁ b₁ d₁
 entry-same {a} {b} {d} {a₁} {b₁} {d₁} p q r = ap (λ (x : ℕ). K.entry x b d) p ∙ (ap (λ (x : ℕ). K.entry a₁ x d) q ∙ ap (λ (x : ℕ). K.entry a₁ b₁ x) r)

@@ -1,11 +1,10 @@
--- `shape::push_copies` meets its contract. Assumes nothing.
+-- `stores::push_copies` meets its contract. Assumes nothing.
 use native.Mathlib.Omega.{arith}
-use Prim.Native.Nat.{_-_}
+use Prim.Native.Nat.{_-_, ℕ, _≤_}
 use mathlib.Core.Path.{_≡_, subst}
-use Prim.Native.Nat.{ℕ, _≤_}
-use Rattle.shape.proofs.Stores.{Copied, no-copies, one-copy, all-copies}
-use Rattle.shape.proofs.push_copies.Statement.{statement}
-use Rattle.shape.proofs.push_copies.Tie as tie
+use Rattle.stores.proofs.Stores.{Copied, no-copies, one-copy, all-copies}
+use Rattle.stores.proofs.push_copies.Statement.{statement}
+use Rattle.stores.proofs.push_copies.Tie as tie
 
 abbrev Inv-loop : tie.InvT-loop
 Inv-loop ws₀ ceiling times e next₀ i₀ ws next i = Copied ws₀ next₀ e ws next i × (i ≤ times)
