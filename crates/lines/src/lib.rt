@@ -1,0 +1,171 @@
+// The answer lines of the programs `names` and `shapes` (specs/Lines.antt).
+mod stream;
+
+pub use stream::answer_input;
+ghost use mathlib.Core.Path.{_≡_};
+ghost use Prim.Native.Nat.{_+_, _≤_, _<_, _^_};
+ghost use lib.ListN.{length};
+ghost use Rattle.definition.specs.Calls as Calls;
+ghost use Rattle.definition.specs.Check as Check;
+ghost use Rattle.definition.specs.Enums.{values};
+ghost use Rattle.definition.specs.Reading as Reading;
+ghost use Rattle.output.specs.Sink.{Room, Wrote};
+ghost use Rattle.lines.specs.Lines.{field, refused-line, accepted-line, counts-told, name-answer, shape-answer, line-of};
+ghost use Rattle.lines.specs.Does.{Space, Appends, Reads, Ends, Answered};
+use definition::Answer;
+use definition::Counts;
+use numerals::put_decimal;
+use output::put_byte;
+
+// What is asked of each line: a symbol's text, or its shape.
+pub enum Asked {
+    Name,
+    Shape,
+}
+
+const CEILING: usize = 256;
+
+// The longest line that is read.
+const LINE: usize = 4096;
+
+// The longest text.
+const TEXT: usize = 16384;
+
+// The longest answer: `=`, a tab, a text and a newline.
+const ANSWER: usize = 16387;
+
+// Appends a tab and a number.
+fn put_field(out: &mut [u8], at: usize, room: usize, n: usize) -> usize
+    requires { ⌜ Room room (now out) at ⌝ }
+    ensures { λ r. ⌜ Wrote room (now (out .entry)) (now (out .exit)) at (field n) r ⌝ }
+{
+    let r = put_byte(out, at, room, b'\t');
+    put_decimal(out, r, room, n)
+}
+
+// Appends the line of a refusal.
+fn put_refusal(out: &mut [u8], at: usize, number: usize, place: usize) -> usize
+    requires { ⌜ Space (now out) at ⌝ }
+    ensures { λ r. ⌜ Appends (now (out .entry)) (now (out .exit)) at (refused-line number place) r ⌝ }
+{
+    let room = out.len();
+    let marked = put_byte(out, at, room, b'!');
+    let numbered = put_field(out, marked, room, number);
+    let placed = put_field(out, numbered, room, place);
+    put_byte(out, placed, room, b'\n')
+}
+
+// Reads a symbol, with its text from at on.
+fn read(line: &[u8], ws: &mut [u32], out: &mut [u8], at: usize) -> Answer
+    requires { ⌜ (length (now ws) ≡ 16384) × (at + 16384 ≤ length (now out)) ⌝ }
+    ensures { λ r. ⌜ Reads (Reading.demangle (now (line .entry)) 256 16384 16384) (now (out .entry)) (now (out .exit)) at r × (length (now (ws .exit)) ≡ 16384) ⌝ }
+{
+    let end = at + TEXT;
+    swift_demangle::demangle(line, CEILING, ws, &mut out[at..end])
+}
+
+// Answers a line with a symbol's text.
+fn answer_name(line: &[u8], ws: &mut [u32], out: &mut [u8], at: usize) -> usize
+    requires { ⌜ length (now ws) ≡ 16384 ⌝ }
+    requires { ⌜ Space (now out) at ⌝ }
+    ensures { λ r. ⌜ Appends (now (out .entry)) (now (out .exit)) at (name-answer (Reading.demangle (now (line .entry)) 256 16384 16384)) r × (length (now (ws .exit)) ≡ 16384) ⌝ }
+{
+    let room = out.len();
+    let marked = put_byte(out, at, room, b'=');
+    let from = put_byte(out, marked, room, b'\t');
+    match read(line, ws, out, from) {
+        Answer::Accepted(_, n) => put_byte(out, from + n, room, b'\n'),
+        // over `=` and the tab
+        Answer::Refused(refusal, place) => put_refusal(
+            out,
+            at,
+            swift_demangle::number(refusal),
+            place,
+        ),
+    }
+}
+
+// Appends `=`, the three counts and a newline.
+fn put_counts(out: &mut [u8], at: usize, counts: Counts) -> usize
+    requires { ⌜ Space (now out) at ⌝ }
+    ensures { λ r. ⌜ Appends (now (out .entry)) (now (out .exit)) at (accepted-line (counts-told (counts .steps) (counts .total) (counts .wraps))) r ⌝ }
+{
+    let room = out.len();
+    let marked = put_byte(out, at, room, b'=');
+    let steps = put_field(out, marked, room, counts.steps);
+    let total = put_field(out, steps, room, counts.total);
+    let wraps = put_field(out, total, room, counts.wraps);
+    put_byte(out, wraps, room, b'\n')
+}
+
+// Answers a line with the counts of a symbol's shape check.
+fn answer_shape(line: &[u8], ws: &mut [u32], out: &mut [u8], at: usize) -> usize
+    requires { ⌜ length (now ws) ≡ 16384 ⌝ }
+    requires { ⌜ Space (now out) at ⌝ }
+    ensures { λ r. ⌜ Appends (now (out .entry)) (now (out .exit)) at (shape-answer (Check.shape (now (line .entry)) 256 16384 .values)) r × (length (now (ws .exit)) ≡ 16384) ⌝ }
+{
+    match swift_demangle::shape(line, CEILING, ws) {
+        Answer::Accepted(counts, _) => put_counts(out, at, counts),
+        Answer::Refused(refusal, place) => put_refusal(
+            out,
+            at,
+            swift_demangle::number(refusal),
+            place,
+        ),
+    }
+}
+
+// Answers a line from at on; the answer is the place behind its newline.
+pub fn answer_line(asked: Asked, line: &[u8], ws: &mut [u32], out: &mut [u8], at: usize) -> usize
+    requires { ⌜ length (now ws) ≡ 16384 ⌝ }
+    requires { ⌜ Space (now out) at ⌝ }
+    ensures { λ r. ⌜ Appends (now (out .entry)) (now (out .exit)) at (line-of asked (now (line .entry))) r × (length (now (ws .exit)) ≡ 16384) ⌝ }
+{
+    if LINE < line.len() {
+        return put_refusal(out, at, 3, 0);
+    }
+    match asked {
+        Asked::Name => answer_name(line, ws, out, at),
+        Asked::Shape => answer_shape(line, ws, out, at),
+    }
+}
+
+// The end of the line that begins at from.
+pub fn line_end(text: &[u8], from: usize) -> usize
+    requires { ⌜ from ≤ length (now text) ⌝ }
+    ensures { λ r. ⌜ Ends (now (text .entry)) from r ⌝ }
+{
+    let mut at = from;
+    while at < text.len() {
+        if text[at] == b'\n' {
+            return at;
+        }
+        at += 1;
+    }
+    at
+}
+
+// How many bytes of the input were answered, and how many bytes their answers have.
+pub struct Progress {
+    pub read: usize,
+    pub written: usize,
+}
+
+// Answers the lines that end in a newline, while there is room.
+pub fn answer_lines(asked: Asked, text: &[u8], ws: &mut [u32], out: &mut [u8]) -> Progress
+    requires { ⌜ length (now ws) ≡ 16384 ⌝ }
+    requires { ⌜ length (now out) < 2 ^ 63 ⌝ }
+    ensures { λ r. ⌜ Answered (line-of asked) (now (text .entry)) (now (out .entry)) (now (out .exit)) r × (length (now (ws .exit)) ≡ 16384) ⌝ }
+{
+    let mut read = 0;
+    let mut written = 0;
+    while written + ANSWER <= out.len() {
+        let end = line_end(text, read);
+        if end == text.len() {
+            return Progress { read, written };
+        }
+        written = answer_line(asked, &text[read..end], ws, out, written);
+        read = end + 1;
+    }
+    Progress { read, written }
+}

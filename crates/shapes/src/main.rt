@@ -1,0 +1,7 @@
+// Each line of standard input is a symbol; the counts of its shape check, or its refusal, are a line of standard output
+// (crates/lines/specs/Lines.antt).
+use lines::Asked;
+
+fn main() {
+    lines::answer_input(Asked::Shape);
+}
