@@ -88,7 +88,7 @@ unfolding Check.stopped-after
 check-k-plain N k s = ended-plain s _ _ (check-numbers N k (s .body)) (λ m. accepted-plain (m .budget) _)
 
 -- WHAT A USER READS
--- of an accepted call: the front of the output slice is the definition's text, as long as the answer says, and the rest is as it was
+-- the front of the output slice is the text, as long as the answer says, and the rest is as it was
 pub record Wrote (text out out′ : List ℕ) (r : Answer) : Type 0 where
   pub long : values r .length ≡ length text
   pub fits : values r .length ≤ length out
@@ -105,22 +105,27 @@ pub record Promised (text out out′ : List ℕ) (r : Answer) : Type 0 where
   pub too-long : values r .number ≡ 12 → length out < length text
 
 -- one law for all of them: whatever the definition answers before 12
+module _ (a : Calls.Answer) {out out′ : List ℕ} {r : Answer} where
+  wrote-it : a .values .length ≡ length (a .written) → length (a .written) ≤ length out → Answers a out out′ r → Wrote (a .written) out out′ r
+  wrote-it e l x =
+      let m : values r .length ≡ length (a .written) = ap (λ (v : Calls.Values). v .length) (x .values) ∙ e in
+      let w = x .written in
+      record {
+        long = m;
+        fits = omega (arith, m, l);
+        front = ap (λ (k : ℕ). take k out′) m ∙ ap (take (length (a .written))) w ∙ take-append-seam (a .written) (drop (length (a .written)) out);
+        rest = ap (λ (k : ℕ). drop k out′) m ∙ ap (drop (length (a .written))) w ∙ drop-append-seam (a .written) (drop (length (a .written)) out) ∙ ap (λ (k : ℕ). drop k out) (sym m);
+      }
+
 module _ (a : Calls.Answer) (h : Plain a) {out out′ : List ℕ} {r : Answer} where
   -- it fits
   fitting : length (a .written) ≤ length out → Answers a out out′ r → Promised (a .written) out out′ r
   fitting l x =
       let n : values r .number ≡ a .values .number = ap (λ (v : Calls.Values). v .number) (x .values) in
-      let m : values r .length ≡ length (a .written) = ap (λ (v : Calls.Values). v .length) (x .values) ∙ h .long in
-      let w = x .written in
       let low = h .below in
       record {
-        refused = λ q. w ∙ ap (λ (s : List ℕ). s ++ drop (length s) out) (h .silent (subst (λ (k : ℕ). T (not (eqb k 0))) n q));
-        accepted = λ q. record {
-          long = m;
-          fits = omega (arith, m, l);
-          front = ap (λ (k : ℕ). take k out′) m ∙ ap (take (length (a .written))) w ∙ take-append-seam (a .written) (drop (length (a .written)) out);
-          rest = ap (λ (k : ℕ). drop k out′) m ∙ ap (drop (length (a .written))) w ∙ drop-append-seam (a .written) (drop (length (a .written)) out) ∙ ap (λ (k : ℕ). drop k out) (sym m);
-        };
+        refused = λ q. x .written ∙ ap (λ (s : List ℕ). s ++ drop (length s) out) (h .silent (subst (λ (k : ℕ). T (not (eqb k 0))) n q));
+        accepted = λ q. wrote-it a (h .long) l x;
         number = omega (arith, n, low);
         too-long = λ q. absurd (omega (arith, n, low, q));
       }
@@ -145,34 +150,73 @@ module _ (a : Calls.Answer) (h : Plain a) {out out′ : List ℕ} {r : Answer} w
       go true e x = fitting (leb→le (length (a .written)) (length out) (subst T (sym e) tt)) x
       go false e x = past (nleb→lt (length (a .written)) (length out) (subst (λ (z : Bool). T (not z)) (sym e) tt)) x
 
+  -- refused or not, what the definition writes stands at the front
+  pub wrote : Answers (within (length out) a) out out′ r → Wrote (within (length out) a .written) out out′ r
+  unfolding within refusal
+  wrote = go (leb (length (a .written)) (length out)) refl
+    where
+      go : (b : Bool) → leb (length (a .written)) (length out) ≡ b → Answers (if b then a else refusal 12 0) out out′ r → Wrote ((if b then a else refusal 12 0) .written) out out′ r
+      go true e x = wrote-it a (h .long) (leb→le (length (a .written)) (length out) (subst T (sym e) tt)) x
+      go false e x = wrote-it (refusal 12 0) refl (omega arith) x
+
 -- THE CALLS
+module _ (t : Text) (N w : ℕ) where
+  pub symbol-read-plain : Plain (Reading.read t N w)
+  unfolding Reading.read
+  symbol-read-plain = checked-plain 64 N w t _ (symbol-plain t _ (read-plain N symbol-kind))
+
+  pub type-read-plain : Plain (Reading.read-type t N w)
+  unfolding Reading.read-type
+  type-read-plain = checked-plain 64 N w t _ (read-plain N K.is-type (whole-text t))
+
+  pub symbol-read-k-plain : (k : ℕ) → Plain (Reading.read-stopped k t N w)
+  unfolding Reading.read-stopped
+  symbol-read-k-plain k = checked-plain 64 N w t _ (symbol-plain t _ (read-k-plain N k))
+
+  pub type-read-k-plain : (k : ℕ) → Plain (Reading.read-type-stopped k t N w)
+  unfolding Reading.read-type-stopped
+  type-read-k-plain k = checked-plain 64 N w t _ (read-k-plain N k (whole-text t))
+
+  -- the stopped checks before 12
+  abbrev pub symbol-check : ℕ → Calls.Answer
+  symbol-check k = checked check-needs N w t (symbol t (Check.stopped-after N k))
+
+  abbrev pub type-check : ℕ → Calls.Answer
+  type-check k = checked check-needs N w t (Check.stopped-after N k (whole-text t))
+
+  pub symbol-check-k-plain : (k : ℕ) → Plain (symbol-check k)
+  symbol-check-k-plain k = checked-plain 8 N w t _ (symbol-plain t _ (check-k-plain N k))
+
+  pub type-check-k-plain : (k : ℕ) → Plain (type-check k)
+  type-check-k-plain k = checked-plain 8 N w t _ (check-k-plain N k (whole-text t))
+
 module _ (t : Text) (N w : ℕ) {out out′ : List ℕ} {r : Answer} where
   -- a reading: its text is the definition's
   pub demangle-promises : Answers (Reading.demangle t N w (length out)) out out′ r → Promised (Reading.read t N w .written) out out′ r
-  unfolding Reading.demangle Reading.read
-  demangle-promises = promised _ (checked-plain 64 N w t _ (symbol-plain t _ (read-plain N symbol-kind)))
+  unfolding Reading.demangle
+  demangle-promises = promised _ (symbol-read-plain t N w)
 
   pub demangle-type-promises : Answers (Reading.demangle-type t N w (length out)) out out′ r → Promised (Reading.read-type t N w .written) out out′ r
-  unfolding Reading.demangle-type Reading.read-type
-  demangle-type-promises = promised _ (checked-plain 64 N w t _ (read-plain N K.is-type (whole-text t)))
+  unfolding Reading.demangle-type
+  demangle-type-promises = promised _ (type-read-plain t N w)
 
   -- a stopped reading: what it writes is the entries of the definition's trees after k operators
   pub demangle-stopped-promises : (k : ℕ) → Answers (Reading.demangle-stopped t N k w (length out)) out out′ r → Promised (Reading.read-stopped k t N w .written) out out′ r
-  unfolding Reading.demangle-stopped Reading.read-stopped
-  demangle-stopped-promises k = promised _ (checked-plain 64 N w t _ (symbol-plain t _ (read-k-plain N k)))
+  unfolding Reading.demangle-stopped
+  demangle-stopped-promises k = promised _ (symbol-read-k-plain t N w k)
 
   pub demangle-type-stopped-promises : (k : ℕ) → Answers (Reading.demangle-type-stopped t N k w (length out)) out out′ r → Promised (Reading.read-type-stopped k t N w .written) out out′ r
-  unfolding Reading.demangle-type-stopped Reading.read-type-stopped
-  demangle-type-stopped-promises k = promised _ (checked-plain 64 N w t _ (read-k-plain N k (whole-text t)))
+  unfolding Reading.demangle-type-stopped
+  demangle-type-stopped-promises k = promised _ (type-read-k-plain t N w k)
 
   -- a stopped check: the entries of its own stack
-  pub shape-stopped-promises : (k : ℕ) → Answers (Check.shape-stopped t N k w (length out)) out out′ r → Promised (checked check-needs N w t (symbol t (Check.stopped-after N k)) .written) out out′ r
+  pub shape-stopped-promises : (k : ℕ) → Answers (Check.shape-stopped t N k w (length out)) out out′ r → Promised (symbol-check t N w k .written) out out′ r
   unfolding Check.shape-stopped
-  shape-stopped-promises k = promised _ (checked-plain 8 N w t _ (symbol-plain t _ (check-k-plain N k)))
+  shape-stopped-promises k = promised _ (symbol-check-k-plain t N w k)
 
-  pub shape-type-stopped-promises : (k : ℕ) → Answers (Check.shape-type-stopped t N k w (length out)) out out′ r → Promised (checked check-needs N w t (Check.stopped-after N k (whole-text t)) .written) out out′ r
+  pub shape-type-stopped-promises : (k : ℕ) → Answers (Check.shape-type-stopped t N k w (length out)) out out′ r → Promised (type-check t N w k .written) out out′ r
   unfolding Check.shape-type-stopped
-  shape-type-stopped-promises k = promised _ (checked-plain 8 N w t _ (check-k-plain N k (whole-text t)))
+  shape-type-stopped-promises k = promised _ (type-check-k-plain t N w k)
 
 -- a whole check has no output slice: its number is 0 to 11
 module _ (t : Text) (N w : ℕ) (r : Answer) where
