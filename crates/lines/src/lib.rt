@@ -1,7 +1,4 @@
 // The answer lines of the programs `names` and `shapes` (specs/Lines.antt).
-mod stream;
-
-pub use stream::answer_input;
 ghost use mathlib.Core.Path.{_≡_};
 ghost use Prim.Native.Nat.{_+_, _≤_, _<_, _^_};
 ghost use lib.ListN.{length};

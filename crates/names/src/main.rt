@@ -2,5 +2,5 @@
 use lines::Asked;
 
 fn main() {
-    lines::answer_input(Asked::Name);
+    stream::answer_input(Asked::Name);
 }

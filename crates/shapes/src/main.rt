@@ -3,5 +3,5 @@
 use lines::Asked;
 
 fn main() {
-    lines::answer_input(Asked::Shape);
+    stream::answer_input(Asked::Shape);
 }

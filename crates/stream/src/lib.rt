@@ -1,12 +1,12 @@
-// Standard input to standard output. No contract can say what is read or written: what is answered is crate::answer_lines, and this file only
+// Standard input to standard output. No contract can say what is read or written: what is answered is lines::answer_lines, and this crate only
 // moves bytes.
 ghost use mathlib.Core.Path.{_≡_};
 ghost use Prim.Native.Nat.{_+_, _≤_, _<_, _^_};
 ghost use lib.ListN.{length};
-use crate::Asked;
-use crate::answer_line;
-use crate::answer_lines;
-use crate::line_end;
+use lines::Asked;
+use lines::answer_line;
+use lines::answer_lines;
+use lines::line_end;
 
 // 64 × 256 numbers.
 fn workspace() -> [u32; 16384]

@@ -4,13 +4,13 @@ use mathlib.Core.Path.{_≡_, refl, sym, _∙_}
 use Prim.Native.Nat.{_-_, _≤_}
 use native.Mathlib.Omega.{arith}
 use lib.ListN.{length}
 use Rattle.lines.proofs.Whole.{inside-rest}
-use Rattle.lines.proofs.stream.answer_whole.Statement.{statement}
-use Rattle.lines.proofs.stream.answer_whole.Tie as tie
-use Rattle.lines.proofs.stream.answer_whole.Reads as reads
-use Rattle.lines.proofs.stream.answer_whole.Lts as lts
+use Rattle.stream.proofs.answer_whole.Statement.{statement}
+use Rattle.stream.proofs.answer_whole.Tie as tie
+use Rattle.stream.proofs.answer_whole.Reads as reads
+use Rattle.stream.proofs.answer_whole.Lts as lts
 use Rattle.io.proofs.write_all.Reads as write-all-reads
 use Rattle.lines.proofs.answer_lines.Reads as answer-lines-reads
 
 abbrev Inv-loop : tie.InvT-loop
 Inv-loop asked input from ws₀ out₀ at₀ ws out at = (length ws ≡ length ws₀) × (length ws₀ ≡ 16384) × (length out ≡ length out₀) × (length out₀ ≡ 131072) × (at ≤ length input)

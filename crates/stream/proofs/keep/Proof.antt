@@ -3,10 +3,10 @@ use native.Mathlib.Omega.{arith}
 use Prim.Native.Nat.{_+_, _-_, _≤_}
 use mathlib.Core.Path.{_≡_}
 use lib.ListN.{length}
-use Rattle.lines.proofs.stream.keep.Statement.{statement}
-use Rattle.lines.proofs.stream.keep.Tie as tie
-use Rattle.lines.proofs.stream.keep.Reads as reads
-use Rattle.lines.proofs.stream.keep.Lts as lts
+use Rattle.stream.proofs.keep.Statement.{statement}
+use Rattle.stream.proofs.keep.Tie as tie
+use Rattle.stream.proofs.keep.Reads as reads
+use Rattle.stream.proofs.keep.Lts as lts
 
 abbrev Inv-loop : tie.InvT-loop
 Inv-loop input₀ from to n i₀ input i = (length input ≡ length input₀) × (from + n ≡ to) × (to ≤ length input₀) × (i ≤ n)

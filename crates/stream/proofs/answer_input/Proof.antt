@@ -2,14 +2,14 @@ use borrow.Author.Needs.{needs}
 use mathlib.Core.Path.{_≡_}
 use Prim.Native.Nat.{_≤_}
 use lib.ListN.{length}
-use Rattle.lines.proofs.stream.answer_input.Statement.{statement}
-use Rattle.lines.proofs.stream.answer_input.Tie as tie
-use Rattle.lines.proofs.stream.answer_input.Reads as reads
-use Rattle.lines.proofs.stream.answer_input.Lts as lts
+use Rattle.stream.proofs.answer_input.Statement.{statement}
+use Rattle.stream.proofs.answer_input.Tie as tie
+use Rattle.stream.proofs.answer_input.Reads as reads
+use Rattle.stream.proofs.answer_input.Lts as lts
 use Rattle.io.proofs.large_buffer.Reads as large-buffer-reads
-use Rattle.lines.proofs.stream.output.Reads as output-reads
-use Rattle.lines.proofs.stream.turn.Reads as turn-reads
-use Rattle.lines.proofs.stream.workspace.Reads as workspace-reads
+use Rattle.stream.proofs.output.Reads as output-reads
+use Rattle.stream.proofs.turn.Reads as turn-reads
+use Rattle.stream.proofs.workspace.Reads as workspace-reads
 
 abbrev Inv-loop : tie.InvT-loop
 Inv-loop asked ws₀ input₀ out₀ held₀ turns₀ ws input out held turns = (16384 ≡ length ws) × (65536 ≡ length input) × (131072 ≡ length out) × (held .have ≤ 65536)

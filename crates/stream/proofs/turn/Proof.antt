@@ -2,15 +2,15 @@ use native.Mathlib.Omega.{arith}
 use mathlib.Core.Logic.{⊎-elim}
 use lib.ListN.{length-take}
 use borrow.Author.Needs.{needs}
-use Rattle.lines.proofs.stream.turn.Statement.{statement}
-use Rattle.lines.proofs.stream.turn.Tie as tie
-use Rattle.lines.proofs.stream.turn.Reads as reads
-use Rattle.lines.proofs.stream.turn.Lts as lts
+use Rattle.stream.proofs.turn.Statement.{statement}
+use Rattle.stream.proofs.turn.Tie as tie
+use Rattle.stream.proofs.turn.Reads as reads
+use Rattle.stream.proofs.turn.Lts as lts
 use Rattle.lines.proofs.line_end.Reads as line-end-reads
-use Rattle.lines.proofs.stream.answer_rest.Reads as answer-rest-reads
-use Rattle.lines.proofs.stream.answer_whole.Reads as answer-whole-reads
-use Rattle.lines.proofs.stream.fill.Reads as fill-reads
-use Rattle.lines.proofs.stream.keep.Reads as keep-reads
+use Rattle.stream.proofs.answer_rest.Reads as answer-rest-reads
+use Rattle.stream.proofs.answer_whole.Reads as answer-whole-reads
+use Rattle.stream.proofs.fill.Reads as fill-reads
+use Rattle.stream.proofs.keep.Reads as keep-reads
 
 -- src/stream.rt:102:9
 fill-requires : tie.Need-fill-requires
