@@ -1,45 +1,12 @@
 //! Our calls, by the C interface (include/swift_demangle.h).
 
-extern "C" {
-    fn swift_demangle(t: *const u8, tl: usize, n: usize, w: *mut u32, wl: usize, o: *mut u8, ol: usize, answer: *mut u64);
-    fn swift_demangle_type(t: *const u8, tl: usize, n: usize, w: *mut u32, wl: usize, o: *mut u8, ol: usize, answer: *mut u64);
-    fn swift_shape(t: *const u8, tl: usize, n: usize, w: *mut u32, wl: usize, answer: *mut u64);
-    fn swift_shape_type(t: *const u8, tl: usize, n: usize, w: *mut u32, wl: usize, answer: *mut u64);
-    fn swift_demangle_stopped(
-        t: *const u8,
-        tl: usize,
-        n: usize,
-        k: usize,
-        w: *mut u32,
-        wl: usize,
-        o: *mut u32,
-        ol: usize,
-        answer: *mut u64,
-    );
-    fn swift_demangle_type_stopped(
-        t: *const u8,
-        tl: usize,
-        n: usize,
-        k: usize,
-        w: *mut u32,
-        wl: usize,
-        o: *mut u32,
-        ol: usize,
-        answer: *mut u64,
-    );
-    fn swift_shape_stopped(t: *const u8, tl: usize, n: usize, k: usize, w: *mut u32, wl: usize, o: *mut u32, ol: usize, answer: *mut u64);
-    fn swift_shape_type_stopped(
-        t: *const u8,
-        tl: usize,
-        n: usize,
-        k: usize,
-        w: *mut u32,
-        wl: usize,
-        o: *mut u32,
-        ol: usize,
-        answer: *mut u64,
-    );
-}
+#[path = "../../bindings/rust/src/raw.rs"]
+mod raw;
+
+use raw::{
+    swift_demangle, swift_demangle_stopped, swift_demangle_type, swift_demangle_type_stopped, swift_shape, swift_shape_stopped, swift_shape_type,
+    swift_shape_type_stopped,
+};
 
 #[derive(Clone, Copy, PartialEq, Eq, Hash, Debug)]
 pub enum Form {
