@@ -19,7 +19,7 @@ use Rattle.definition.specs.declared.Accessor.the-variants as Accessor
 use Rattle.definition.specs.declared.About.the-variants as About
 use Rattle.definition.specs.declared.Operator.{Operator}
 use Rattle.definition.specs.declared.Operator.the-variants as Operator
-use Rattle.rows.specs.Table.{decoded, code-at, takes-from, row-takes, row-leaves, copies-of, row-of, leaf-row, times-of, subject-index, constraint-index}
+use Rattle.rows.specs.Table.{decoded, takes-from, row-takes, row-leaves, copies-of, row-of, leaf-row, times-of, subject-index, constraint-index}
 use Rattle.rows.specs.declared.Copies.{Copies}
 use Rattle.rows.specs.declared.Copies.the-variants as Copies
 
@@ -28,7 +28,7 @@ rule-of r c = C.rule (row-takes r) (row-leaves r c)
 
 module _ (fixed : ℕ → String) where
   leaf-is : (l : Leaf) (c : Copies) → C.rule [] (C.leaf-leaves (Enums.leaf fixed l) (copies-of c)) ≡ rule-of (leaf-row l) c
-  unfolding C.leaf-kind C.leaf-size nominal-kind Enums.leaf Enums.nominal-kind decoded code-at takes-from row-leaves
+  unfolding C.leaf-kind C.leaf-size nominal-kind Enums.leaf Enums.nominal-kind decoded takes-from row-leaves
   leaf-is (Leaf.Module n) c = refl
   leaf-is (Leaf.StandardNominal NominalKind.Class n) c = refl
   leaf-is (Leaf.StandardNominal NominalKind.Struct n) c = refl
@@ -43,7 +43,7 @@ module _ (fixed : ℕ → String) where
   leaf-is Leaf.Async c = refl
 
   requirement-is : (s : Subject) (k : Constraint) → C.row (Enums.operator fixed (Operator.Requirement s k)) ≡ rule-of (25 + 5 * subject-index s + constraint-index k) Copies.Once
-  unfolding C.row C.letter C.subject-takes C.subject-own C.constraint-takes C.constraint-leaves Enums.operator Enums.subject Enums.constraint decoded code-at takes-from row-leaves copies-of
+  unfolding C.row C.letter C.subject-takes C.subject-own C.constraint-takes C.constraint-leaves Enums.operator Enums.subject Enums.constraint decoded takes-from row-leaves copies-of
   requirement-is (Subject.OfParam p) Constraint.Conforms = refl
   requirement-is (Subject.OfParam p) Constraint.Superclass = refl
   requirement-is (Subject.OfParam p) Constraint.SameType = refl
@@ -61,7 +61,7 @@ module _ (fixed : ℕ → String) where
   requirement-is (Subject.OfMember p) (Constraint.Layout false) = refl
 
   pub row-is : (q : Operator) → C.row (Enums.operator fixed q) ≡ rule-of (row-of q) (times-of q)
-  unfolding C.row C.letter C.variable-leaves C.about-row nominal-kind Enums.operator Enums.nominal-kind Enums.about decoded code-at takes-from row-leaves copies-of
+  unfolding C.row C.letter C.variable-leaves C.about-row nominal-kind Enums.operator Enums.nominal-kind Enums.about decoded takes-from row-leaves copies-of
   row-is (Operator.Nominal NominalKind.Class) = refl
   row-is (Operator.Nominal NominalKind.Struct) = refl
   row-is (Operator.Nominal NominalKind.Enum) = refl

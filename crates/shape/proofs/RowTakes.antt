@@ -2,7 +2,7 @@
 use mathlib.Core.Path.{_≡_, refl, sym, ap, subst, _∙_}
 use mathlib.Core.Bool.{Bool, true, false, _&&_, _||_, not}
 use mathlib.Core.List.{List, [], _∷_}
-use Prim.Native.Nat.{ℕ, zero, suc, _+_, _*_, _-_, _^_, _≤_, _<_}
+use Prim.Native.Nat.{ℕ, zero, suc, _+_, _-_, _/_, _%_, _^_, _≤_, _<_}
 use native.Mathlib.Omega.{arith}
 use native.Mathlib.Nat.{not-suc-le-zero}
 use borrow.Author.Tests.{eq-eqb, ne-eqb, ltb-true, ltb-false, leb-true}
@@ -23,7 +23,7 @@ use Rattle.entries.specs.declared.Taken.{Taken}
 use Rattle.entries.specs.declared.Take.{Take}
 use Rattle.entries.specs.declared.Taking.{Taking}
 use Rattle.entries.specs.declared.Taking.the-variants as Taking
-use Rattle.rows.specs.Table.{takes, decoded, code-at, unless-ended, takes-from, row-takes}
+use Rattle.rows.specs.Table.{codes, decoded, unless-ended, takes-from, row-takes}
 use Rattle.shape.specs.Performs.{Light, RowWent, RowRefused}
 
 -- THE TABLE: a list is never counted on from an entry's count
@@ -39,10 +39,6 @@ unfoldable pub good : List C.Take → Bool
 good [] = true
 good (t ∷ ts) = unless-grown (resets t) (any-grows ts) && good ts
 
-good-below : ℕ → Bool
-good-below zero = true
-good-below (suc n) = good (row-takes n) && good-below n
-
 and-left : (a b : Bool) → (a && b) ≡ true → a ≡ true
 and-left true b e = refl
 and-left false b e = e
@@ -51,33 +47,32 @@ and-right : (a b : Bool) → (a && b) ≡ true → b ≡ true
 and-right true b e = e
 and-right false b e = absurd (let z : _≡_ {A = ℕ} 0 1 = cc in omega arith)
 
-good-from : (n r : ℕ) → r < n → good-below n ≡ true → good (row-takes r) ≡ true
-unfolding good-below
-good-from zero r h e = absurd (not-suc-le-zero h)
-good-from (suc n) r h e = go (λ p. good-from n r p (and-right (good (row-takes n)) (good-below n) e)) (ltb r n) refl
+-- what holds of each number below n
+all-below : (ℕ → Bool) → ℕ → Bool
+all-below p zero = true
+all-below p (suc n) = p n && all-below p n
+
+all-from : (p : ℕ → Bool) (n r : ℕ) → r < n → all-below p n ≡ true → p r ≡ true
+unfolding all-below
+all-from p zero r h e = absurd (not-suc-le-zero h)
+all-from p (suc n) r h e = go (λ l. all-from p n r l (and-right (p n) (all-below p n) e)) (ltb r n) refl
   where
-    go : (r < n → good (row-takes r) ≡ true) → (b : Bool) → ltb r n ≡ b → good (row-takes r) ≡ true
+    go : (r < n → p r ≡ true) → (b : Bool) → ltb r n ≡ b → p r ≡ true
     go f true q = f (ltb-true r n q)
-    go f false q = let p : n ≡ r = omega (arith, ltb-false r n q) in subst (λ (m : ℕ). good (row-takes m) ≡ true) p (and-left (good (row-takes n)) (good-below n) e)
+    go f false q = let l : n ≡ r = omega (arith, ltb-false r n q) in subst (λ (m : ℕ). p m ≡ true) l (and-left (p n) (all-below p n) e)
 
 good-rows : (r : ℕ) → r < 60 → good (row-takes r) ≡ true
-unfolding good-below good any-grows takes-from code-at decoded
-good-rows r h = good-from 60 r h refl
+unfolding all-below good any-grows takes-from decoded
+good-rows r h = all-from (λ n. good (row-takes n)) 60 r h refl
 
--- every code is one of a take
-all-le : List ℕ → Bool
-all-le [] = true
-all-le (x ∷ xs) = leb x 25 && all-le xs
+-- each of n codes is one of a take, or 0
+pub small : ℕ → ℕ → Bool
+small c zero = true
+small c (suc n) = leb (c % 32) 25 && small (c / 32) n
 
-le-at : (xs : List ℕ) (i : ℕ) → all-le xs ≡ true → getD xs i 0 ≤ 25
-unfolding all-le
-le-at [] i e = omega arith
-le-at (x ∷ xs) zero e = leb-true x 25 (and-left (leb x 25) (all-le xs) e)
-le-at (x ∷ xs) (suc i) e = le-at xs i (and-right (leb x 25) (all-le xs) e)
-
-pub code-small : (i : ℕ) → code-at i ≤ 25
-unfolding code-at all-le
-code-small i = le-at takes i refl
+pub small-rows : (r : ℕ) → r < 60 → small (getD codes r 0) 10 ≡ true
+unfolding all-below small
+small-rows r h = all-from (λ n. small (getD codes n 0) 10) 60 r h refl
 
 -- THE ROW UP TO HERE: what is left of it
 pub record Rowed (w : List ℕ) (st₀ : State) (row : ℕ) (st : State) (a : Taken) (j : ℕ) (rest : List C.Take) : Type 0 where
@@ -121,28 +116,35 @@ row-start w st row a h l q =
     }
 
 -- what is left, by the code
-module _ (row j : ℕ) (h : j < 10) where
-  unfolded : takes-from (10 * row + j) (10 - j) ≡ unless-ended (eqb (code-at (10 * row + j)) 0) (take-of (decoded (code-at (10 * row + j))) ∷ takes-from (10 * row + (j + 1)) (10 - (j + 1)))
+module _ (c j : ℕ) (h : j < 10) where
+  one-less : 10 - j ≡ suc (10 - (j + 1))
+  one-less = omega arith
+
+  unfolded : takes-from c (10 - j) ≡ unless-ended (eqb (c % 32) 0) (take-of (decoded (c % 32)) ∷ takes-from (c / 32) (10 - (j + 1)))
   unfolding takes-from
-  unfolded =
-      let p : 10 - j ≡ suc (10 - (j + 1)) = omega arith in
-      let q : suc (10 * row + j) ≡ 10 * row + (j + 1) = omega arith in
-      ap (takes-from (10 * row + j)) p ∙ ap (λ (i : ℕ). unless-ended (eqb (code-at (10 * row + j)) 0) (take-of (decoded (code-at (10 * row + j))) ∷ takes-from i (10 - (j + 1)))) q
+  unfolded = ap (takes-from c) one-less
 
-  pub rest-ended : code-at (10 * row + j) ≡ 0 → takes-from (10 * row + j) (10 - j) ≡ []
-  rest-ended e = unfolded ∙ ap (λ (b : Bool). unless-ended b (take-of (decoded (code-at (10 * row + j))) ∷ takes-from (10 * row + (j + 1)) (10 - (j + 1)))) (eq-eqb _ 0 e)
+  pub rest-ended : c % 32 ≡ 0 → takes-from c (10 - j) ≡ []
+  rest-ended e = unfolded ∙ ap (λ (b : Bool). unless-ended b (take-of (decoded (c % 32)) ∷ takes-from (c / 32) (10 - (j + 1)))) (eq-eqb _ 0 e)
 
-  pub rest-more : (t : Take) → t ≡ decoded (code-at (10 * row + j)) → (code-at (10 * row + j) ≡ 0 → ⊥) → takes-from (10 * row + j) (10 - j) ≡ take-of t ∷ takes-from (10 * row + (j + 1)) (10 - (j + 1))
+  pub rest-more : (t : Take) → t ≡ decoded (c % 32) → (c % 32 ≡ 0 → ⊥) → takes-from c (10 - j) ≡ take-of t ∷ takes-from (c / 32) (10 - (j + 1))
   rest-more t p e =
-      unfolded ∙ (ap (λ (b : Bool). unless-ended b (take-of (decoded (code-at (10 * row + j))) ∷ takes-from (10 * row + (j + 1)) (10 - (j + 1)))) (ne-eqb _ 0 e)
-      ∙ ap (λ (x : Take). take-of x ∷ takes-from (10 * row + (j + 1)) (10 - (j + 1))) (sym p))
+      unfolded ∙ (ap (λ (b : Bool). unless-ended b (take-of (decoded (c % 32)) ∷ takes-from (c / 32) (10 - (j + 1)))) (ne-eqb _ 0 e)
+      ∙ ap (λ (x : Take). take-of x ∷ takes-from (c / 32) (10 - (j + 1))) (sym p))
 
-pub rest-none : (row j : ℕ) → 10 ≤ j → takes-from (10 * row + j) (10 - j) ≡ []
+  small-both : small c (10 - j) ≡ true → (leb (c % 32) 25 && small (c / 32) (10 - (j + 1))) ≡ true
+  unfolding small
+  small-both e = sym (ap (small c) one-less) ∙ e
+
+  pub small-first : small c (10 - j) ≡ true → c % 32 ≤ 25
+  small-first e = leb-true (c % 32) 25 (and-left (leb (c % 32) 25) (small (c / 32) (10 - (j + 1))) (small-both e))
+
+  pub small-more : small c (10 - j) ≡ true → small (c / 32) (10 - (j + 1)) ≡ true
+  small-more e = and-right (leb (c % 32) 25) (small (c / 32) (10 - (j + 1))) (small-both e)
+
+pub rest-none : (c j : ℕ) → 10 ≤ j → takes-from c (10 - j) ≡ []
 unfolding takes-from
-rest-none row j h = let p : 10 - j ≡ 0 = omega arith in ap (takes-from (10 * row + j)) p
-
-pub rest-all : (row : ℕ) → row-takes row ≡ takes-from (10 * row + 0) (10 - 0)
-rest-all row = let p : 10 * row ≡ 10 * row + 0 = omega arith in ap (λ (i : ℕ). takes-from i 10) p
+rest-none c j h = let p : 10 - j ≡ 0 = omega arith in ap (takes-from c) p
 
 module _ {w : List ℕ} {st₀ st : State} {row : ℕ} {a : Taken} {j : ℕ} {rest : List C.Take} (r : Rowed w st₀ row st a j rest) where
   pub row-ended : rest ≡ [] → RowWent w st₀ row a st

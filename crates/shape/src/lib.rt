@@ -14,7 +14,7 @@ use entries::State;
 use entries::Taken;
 use entries::Taking;
 use rows::Copies;
-use rows::code;
+use rows::codes_of;
 use rows::counts;
 use rows::decode;
 use rows::kind_of;
@@ -40,9 +40,10 @@ fn take_row(ws: &[u32], st: State, row: usize) -> Taking
         count: 0,
         signed: false,
     };
-    let mut j = 0;
+    let mut rest = codes_of(row);
+    let mut j: usize = 0;
     while j < 10 {
-        let c = code(10 * row + j);
+        let c = rest % 32;
         if c == 0 {
             return Taking::Went(sum, left);
         }
@@ -56,6 +57,7 @@ fn take_row(ws: &[u32], st: State, row: usize) -> Taking
                 return Taking::Refused(r);
             }
         }
+        rest = rest / 32;
         j += 1;
     }
     Taking::Went(sum, left)
