@@ -38,3 +38,7 @@ Passed out text least Behind.Broken = out ≡ none
 abbrev pub Placed : Option ℕ → IllFormed → Type 0
 Placed out (IllFormed.At i) = out ≡ some i
 Placed out IllFormed.Nowhere = out ≡ none
+
+-- the bytes from one place to another are below 80 (hexadecimal)
+pub record Ascii (text : Text) (from to : ℕ) : Type 0 where
+  pub each : (i : ℕ) → from ≤ i → i < to → getD text i 0 < 128

@@ -1,10 +1,11 @@
 // UTF-8.
 ghost use mathlib.Core.Path.{_≡_};
+ghost use mathlib.Core.Bool.{true};
 ghost use Prim.Native.Nat.{_+_, _-_, _≤_, _<_};
 ghost use lib.ListN.{length, getD, take, drop};
 ghost use Rattle.definition.specs.Text as Text;
 ghost use Rattle.definition.specs.Text.{rows};
-ghost use Rattle.utf8.specs.Utf8.{RowIs, Passed, Placed, row-at};
+ghost use Rattle.utf8.specs.Utf8.{Ascii, RowIs, Passed, Placed, row-at};
 
 // The place of the first ill-formed sequence.
 pub enum IllFormed {
@@ -133,16 +134,47 @@ fn character(text: &[u8], at: usize) -> Behind
     }
 }
 
+// Whether the eight bytes from a place on are all below 80. No test waits for another, so the compiler makes one of all.
+fn eight_ascii(text: &[u8], at: usize) -> bool
+    requires { ⌜ at + 8 ≤ length (now text) ⌝ }
+    ensures { λ r. ⌜ (r ≡ true → Ascii (now (text .entry)) at (at + 8)) ⌝ }
+{
+    let first = (text[at] < 128)
+        & (text[at + 1] < 128)
+        & (text[at + 2] < 128)
+        & (text[at + 3] < 128);
+    let last = (text[at + 4] < 128)
+        & (text[at + 5] < 128)
+        & (text[at + 6] < 128)
+        & (text[at + 7] < 128);
+    first & last
+}
+
+// The place behind bytes below 80, eight at a time, from a place on.
+fn past_ascii(text: &[u8], from: usize) -> usize
+    requires { ⌜ from ≤ length (now text) ⌝ }
+    ensures { λ r. ⌜ (from ≤ r) × (r ≤ length (now (text .entry))) × Ascii (now (text .entry)) from r ⌝ }
+{
+    let mut at = from;
+    while 8 <= text.len() - at {
+        if !eight_ascii(text, at) {
+            return at;
+        }
+        at += 8;
+    }
+    at
+}
+
 // The place of the first ill-formed sequence.
 pub fn ill_formed(text: &[u8]) -> IllFormed
     ensures { λ r. ⌜ Placed (Text.ill-formed (now (text .entry))) r ⌝ }
 {
-    let mut at = 0;
+    let mut at = past_ascii(text, 0);
     while at < text.len() {
         let Behind::At(next) = character(text, at) else {
             return IllFormed::At(at);
         };
-        at = next;
+        at = past_ascii(text, next);
     }
     IllFormed::Nowhere
 }

@@ -4,6 +4,8 @@ use mathlib.Core.Bool.{Bool, true, false, _&&_, not}
 use mathlib.Core.List.{List, [], _∷_, _++_}
 use Prim.Native.Nat.{ℕ, zero, suc, _+_, _-_, _≤_, _<_}
 use native.Mathlib.Omega.{arith}
+use borrow.Author.Tests.{lt-leb}
+use lib.Dec.{leb}
 use lib.ListN.{length}
 use Rattle.definition.specs.Base.{Name, is, upper}
 use Rattle.definition.specs.Text.{Text}
@@ -88,6 +90,16 @@ both false b e k = k
 pub no-capital : (a b : Bool) → b ≡ false → (not a && b) ≡ false
 no-capital true b e = refl
 no-capital false b e = e
+
+and-false : (a : Bool) → (a && false) ≡ false
+and-false true = refl
+and-false false = refl
+
+-- what stands behind `_` is no capital
+pub past-capitals : (b : ℕ) → 95 < b → upper b ≡ false
+past-capitals b h =
+    let l : 90 < b = omega arith in
+    rw (lt-leb b 90 l) (and-false (leb 65 b))
 
 one-more : (at : ℕ) → (at + 1) - at ≡ 1
 one-more at = omega arith

@@ -83,6 +83,13 @@ fn turn(start: usize, at: usize, previous: u8, b: u8) -> Boundary
             start: at + 1,
         };
     }
+    // no capital and no `_`: most bytes
+    if 95 < b {
+        return Boundary {
+            ended: false,
+            start,
+        };
+    }
     if b == 95 {
         return Boundary {
             ended: true,

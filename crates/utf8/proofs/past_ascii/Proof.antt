@@ -1,0 +1,57 @@
+-- `utf8::past_ascii` meets its contract. Assumes nothing.
+use Prim.Native.Nat.{_≤_, _-_}
+use native.Mathlib.Omega.{arith}
+use borrow.Author.Needs.{needs}
+use borrow.Author.Tests.{not-false}
+use lib.ListN.{length}
+use Rattle.utf8.specs.Utf8.{Ascii}
+use Rattle.utf8.proofs.Characters.{ascii-none, ascii-both}
+use Rattle.utf8.proofs.past_ascii.Statement.{statement}
+use Rattle.utf8.proofs.past_ascii.Tie as tie
+
+abbrev Inv-loop : tie.InvT-loop
+Inv-loop text from at₀ at = (from ≤ at) × (at ≤ length text) × Ascii text from at
+
+abbrev μ-loop : tie.MeasureT-loop
+μ-loop text from at₀ at = length text - at
+
+loop-holds : tie.Need-loop-holds Inv-loop μ-loop
+loop-holds c = (omega arith, c .before .pre, ascii-none)
+
+sub-loop : tie.Need-sub-loop Inv-loop μ-loop
+sub-loop c = c .loop .inv .1
+
+eight-ascii-requires : tie.Need-eight-ascii-requires Inv-loop μ-loop
+eight-ascii-requires c κs = let h = c .before .loop .inv .1 in omega arith
+
+returns : tie.Need-returns Inv-loop μ-loop
+returns c = c .before .before .before .loop .inv
+
+add-at : tie.Need-add-at Inv-loop μ-loop
+add-at c = omega arith
+
+loop-less : tie.Need-loop-less Inv-loop μ-loop
+loop-less c = omega arith
+
+loop-again : tie.Need-loop-again Inv-loop μ-loop
+loop-again c =
+    let h = c .before .before .before .loop .inv in
+    (omega (arith, h .0), omega arith, ascii-both (h .2) (c .before .eight-ascii .ensures (not-false _ (c .if1 .left))))
+
+returns-2 : tie.Need-returns-2 Inv-loop μ-loop
+returns-2 c = c .before .loop .inv
+
+pub past-ascii-spec : {M : Type 1} → statement M
+past-ascii-spec =
+    tie.close
+    (tie.spec
+    Inv-loop
+    μ-loop
+    loop-holds
+    sub-loop
+    eight-ascii-requires
+    returns
+    add-at
+    loop-less
+    loop-again
+    returns-2)
