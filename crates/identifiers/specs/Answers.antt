@@ -5,8 +5,8 @@ use mathlib.Core.Bool.{false}
 use mathlib.Core.List.{List}
 use Prim.Native.Nat.{ℕ, _+_, _≤_, _<_}
 use lib.ListN.{length, drop}
-use Rattle.definition.specs.Base.{Name, Out, ok, refused}
-use Rattle.definition.specs.Text.{Text}
+use Rattle.definition.specs.Base.{Name, Out, ok, refused, is}
+use Rattle.definition.specs.Text.{Text, next-if}
 use Rattle.definition.specs.Words as W
 use Rattle.definition.specs.Check as C
 use Rattle.definition.specs.Enums.{number}
@@ -38,6 +38,10 @@ pub record Lies {A : Type 0} (out : Out Text A) (f : Name → A) (text : Text) (
   pub onward : least ≤ from
   pub some : from < to
   pub inside : to ≤ length text
+
+-- no `0` stands at a place
+pub record NoZero (text : Text) (at : ℕ) : Type 0 where
+  pub is : next-if (is "0") (drop at text) ≡ ok false (drop at text)
 
 abbrev pub Lettered : Out Text C.Spelled → Text → ℕ → Letters → Type 0
 Lettered out text from (Letters.Read e m c) = Reaches out (C.spelled e m) text from c

@@ -1,13 +1,13 @@
 // Identifiers, over the words as a table or as a count.
 ghost use mathlib.Core.Path.{_≡_};
-ghost use mathlib.Core.Bool.{true};
+ghost use mathlib.Core.Bool.{true, false};
 ghost use Prim.Native.Nat.{ℕ, _+_, _-_, _≤_, _<_};
 ghost use lib.ListN.{length, drop};
 ghost use Rattle.definition.specs.Words as W;
 ghost use Rattle.definition.specs.Check as C;
 ghost use Rattle.words.specs.Table.{part, table, Fitting, Holds};
 ghost use Rattle.identifiers.specs.Rounds.{closing, round, whole-slice, known-after, named};
-ghost use Rattle.identifiers.specs.Answers.{Lettered, Extends, Pieced, Got-table, Got-count, Identifies, Counted};
+ghost use Rattle.identifiers.specs.Answers.{NoZero, Lettered, Extends, Pieced, Got-table, Got-count, Identifies, Counted};
 use definition::Refusal;
 use letters::is_lower;
 use letters::is_upper;
@@ -207,6 +207,26 @@ fn rounds_of(text: &[u8], c: Cursor, w: Words, subs: bool, punycoded: bool) -> I
     }
 }
 
+// An identifier that does not begin with `0`: one literal.
+fn plain(text: &[u8], c: Cursor, w: Words) -> Identified
+    requires { ⌜ (c .at ≤ length (now text)) × (length (now text) ≤ 65535) × Fitting (now text) w × NoZero (now text) (c .at) ⌝ }
+    ensures { λ r. ⌜ ((fuel : ℕ) → length (now (text .entry)) < c .at + fuel → Got-table (named length W.note-words fuel false false (table (now (text .entry)) w) true (drop (c .at) (now (text .entry)))) (now (text .entry)) (c .at) (r .read) (r .words)) × Fitting (now (text .entry)) (r .words) ⌝ }
+{
+    match literal(text, c, false) {
+        Extent::Read(from, to) => {
+            let known = note_words(text, from, to, w);
+            Identified {
+                read: NameRead::Read(Cursor { at: to }),
+                words: known,
+            }
+        }
+        Extent::Refused(f) => Identified {
+            read: NameRead::Refused(f),
+            words: w,
+        },
+    }
+}
+
 // An identifier: `00` before it marks punycode, `0` alone allows words by letter.
 pub fn identifier(text: &[u8], c: Cursor, w: Words) -> Identified
     requires { ⌜ (c .at ≤ length (now text)) × ((length (now text) ≤ 65535) × Fitting (now text) w) ⌝ }
@@ -216,7 +236,7 @@ pub fn identifier(text: &[u8], c: Cursor, w: Words) -> Identified
     let zero = first.taken;
     let next = first.next;
     if !zero {
-        return rounds_of(text, next, w, false, false);
+        return plain(text, next, w);
     }
     let second = next_if(text, next, b'0');
     let punycoded = second.taken;
@@ -268,6 +288,18 @@ fn count_rounds(text: &[u8], c: Cursor, count: usize, subs: bool, punycoded: boo
     }
 }
 
+fn plain_count(text: &[u8], c: Cursor, count: usize) -> CountRead
+    requires { ⌜ (c .at ≤ length (now text)) × (length (now text) ≤ 65535) × NoZero (now text) (c .at) ⌝ }
+    ensures { λ r. ⌜ ((fuel : ℕ) → length (now (text .entry)) < c .at + fuel → Got-count (named (λ (n : ℕ). n) (C.count-words-from 0 0) fuel false false count true (drop (c .at) (now (text .entry)))) (now (text .entry)) (c .at) r) ⌝ }
+{
+    match literal(text, c, false) {
+        Extent::Read(from, to) => {
+            CountRead::Read(count_words(text, from, to, count), Cursor { at: to })
+        }
+        Extent::Refused(f) => CountRead::Refused(f),
+    }
+}
+
 // An identifier, and how many words are known after it.
 pub fn identifier_count(text: &[u8], c: Cursor, count: usize) -> CountRead
     requires { ⌜ (c .at ≤ length (now text)) × (length (now text) ≤ 65535) ⌝ }
@@ -277,7 +309,7 @@ pub fn identifier_count(text: &[u8], c: Cursor, count: usize) -> CountRead
     let zero = first.taken;
     let next = first.next;
     if !zero {
-        return count_rounds(text, next, count, false, false);
+        return plain_count(text, next, count);
     }
     let second = next_if(text, next, b'0');
     let punycoded = second.taken;

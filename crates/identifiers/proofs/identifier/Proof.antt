@@ -9,6 +9,7 @@ use Rattle.text.proofs.Steps.{taken-is}
 use Rattle.words.specs.Table.{table}
 use Rattle.identifiers.proofs.Alike.{table-alike}
 use Rattle.identifiers.proofs.Answers.{well-kept, first-plain, first-zero, fuel-enough, answered}
+use Rattle.identifiers.proofs.OneLiteral.{no-zero}
 use borrow.Author.Needs.{needs}
 use Rattle.identifiers.proofs.identifier.Statement.{statement}
 use Rattle.identifiers.proofs.identifier.Tie as tie
@@ -16,8 +17,10 @@ use Rattle.identifiers.proofs.identifier.Tie as tie
 next-if-requires : tie.Need-next-if-requires
 next-if-requires c κs = search needs
 
-rounds-of-requires : tie.Need-rounds-of-requires
-rounds-of-requires c κs = search needs
+plain-requires : tie.Need-plain-requires
+plain-requires c κs =
+    let s = c .before .before .next-if .ensures in
+    (s .inside, c .before .before .before .before .pre .1 .0, c .before .before .before .before .pre .1 .1, no-zero (c .before .before .before .before .args .text .now) (c .before .before .before .before .args .c .at) (c .before .before .next-if .result .next .at) (taken-is (s .is) (not-true (c .before .before .next-if .result .taken) (c .if1 .taken))))
 
 returns : tie.Need-returns
 returns c =
@@ -27,15 +30,15 @@ returns c =
     let l : a .c .at ≤ c .before .before .before .next-if .result .next .at = s .onward in
     let e = sym (table-alike (table x (a .w)) (drop (a .c .at) x) (well-kept x (a .w) (c .before .before .before .before .before .pre .1 .1))) ∙ first-plain length note-words (table x (a .w)) (drop (a .c .at) x) (taken-is (s .is) (not-true (c .before .before .before .next-if .result .taken) (c .before .if1 .taken))) in
     record {
-      answer = answered x l (c .rounds-of .result .words) (identifier (table x (a .w)) (drop (a .c .at) x)) e (c .rounds-of .result .read) (c .rounds-of .ensures .0 (suc (length (drop (a .c .at) x))) (fuel-enough x (a .c .at) (c .before .before .before .next-if .result .next .at) l));
-      fitting = c .rounds-of .ensures .1;
+      answer = answered x l (c .plain .result .words) (identifier (table x (a .w)) (drop (a .c .at) x)) e (c .plain .result .read) (c .plain .ensures .0 (suc (length (drop (a .c .at) x))) (fuel-enough x (a .c .at) (c .before .before .before .next-if .result .next .at) l));
+      fitting = c .plain .ensures .1;
     }
 
 next-if-requires-2 : tie.Need-next-if-requires-2
 next-if-requires-2 c κs = search needs
 
-rounds-of-requires-2 : tie.Need-rounds-of-requires-2
-rounds-of-requires-2 c κs = search needs
+rounds-of-requires : tie.Need-rounds-of-requires
+rounds-of-requires c κs = search needs
 
 returns-2 : tie.Need-returns-2
 returns-2 c =
@@ -46,8 +49,8 @@ returns-2 c =
     let l : a .c .at ≤ c .before .before .next-if2 .result .next .at = omega (arith, s .onward, s₂ .onward) in
     let e = sym (table-alike (table x (a .w)) (drop (a .c .at) x) (well-kept x (a .w) (c .before .before .before .before .before .before .before .pre .1 .1))) ∙ first-zero length note-words (table x (a .w)) (drop (a .c .at) x) (taken-is (s .is) (not-false (c .before .before .before .before .before .next-if .result .taken) (c .before .before .before .if1 .left))) (s₂ .is) in
     record {
-      answer = answered x l (c .rounds-of2 .result .words) (identifier (table x (a .w)) (drop (a .c .at) x)) e (c .rounds-of2 .result .read) (c .rounds-of2 .ensures .0 (suc (length (drop (a .c .at) x))) (fuel-enough x (a .c .at) (c .before .before .next-if2 .result .next .at) l));
-      fitting = c .rounds-of2 .ensures .1;
+      answer = answered x l (c .rounds-of .result .words) (identifier (table x (a .w)) (drop (a .c .at) x)) e (c .rounds-of .result .read) (c .rounds-of .ensures .0 (suc (length (drop (a .c .at) x))) (fuel-enough x (a .c .at) (c .before .before .next-if2 .result .next .at) l));
+      fitting = c .rounds-of .ensures .1;
     }
 
 pub identifier-spec : {M : Type 1} → statement M
@@ -55,8 +58,8 @@ identifier-spec =
     tie.close
     (tie.spec
     next-if-requires
-    rounds-of-requires
+    plain-requires
     returns
     next-if-requires-2
-    rounds-of-requires-2
+    rounds-of-requires
     returns-2)

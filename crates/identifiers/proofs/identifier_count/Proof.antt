@@ -8,6 +8,7 @@ use Rattle.definition.specs.Check.{count-words-from, identifier}
 use Rattle.text.proofs.Steps.{taken-is}
 use Rattle.identifiers.proofs.Alike.{count-alike}
 use Rattle.identifiers.proofs.Answers.{first-plain, first-zero, fuel-enough, counted}
+use Rattle.identifiers.proofs.OneLiteral.{no-zero}
 use borrow.Author.Needs.{needs}
 use Rattle.identifiers.proofs.identifier_count.Statement.{statement}
 use Rattle.identifiers.proofs.identifier_count.Tie as tie
@@ -15,8 +16,10 @@ use Rattle.identifiers.proofs.identifier_count.Tie as tie
 next-if-requires : tie.Need-next-if-requires
 next-if-requires c κs = search needs
 
-count-rounds-requires : tie.Need-count-rounds-requires
-count-rounds-requires c κs = search needs
+plain-count-requires : tie.Need-plain-count-requires
+plain-count-requires c κs =
+    let s = c .before .before .next-if .ensures in
+    (s .inside, c .before .before .before .before .pre .1, no-zero (c .before .before .before .before .args .text .now) (c .before .before .before .before .args .c .at) (c .before .before .next-if .result .next .at) (taken-is (s .is) (not-true (c .before .before .next-if .result .taken) (c .if1 .taken))))
 
 returns : tie.Need-returns
 returns c =
@@ -25,13 +28,13 @@ returns c =
     let s = c .before .before .before .next-if .ensures in
     let l : a .c .at ≤ c .before .before .before .next-if .result .next .at = s .onward in
     let e = sym (count-alike (a .count) (drop (a .c .at) x)) ∙ first-plain (λ (n : ℕ). n) (count-words-from 0 0) (a .count) (drop (a .c .at) x) (taken-is (s .is) (not-true (c .before .before .before .next-if .result .taken) (c .before .if1 .taken))) in
-    counted x l (identifier (a .count) (drop (a .c .at) x)) e (c .count-rounds .result) (c .count-rounds .ensures (suc (length (drop (a .c .at) x))) (fuel-enough x (a .c .at) (c .before .before .before .next-if .result .next .at) l))
+    counted x l (identifier (a .count) (drop (a .c .at) x)) e (c .plain-count .result) (c .plain-count .ensures (suc (length (drop (a .c .at) x))) (fuel-enough x (a .c .at) (c .before .before .before .next-if .result .next .at) l))
 
 next-if-requires-2 : tie.Need-next-if-requires-2
 next-if-requires-2 c κs = search needs
 
-count-rounds-requires-2 : tie.Need-count-rounds-requires-2
-count-rounds-requires-2 c κs = search needs
+count-rounds-requires : tie.Need-count-rounds-requires
+count-rounds-requires c κs = search needs
 
 returns-2 : tie.Need-returns-2
 returns-2 c =
@@ -41,15 +44,15 @@ returns-2 c =
     let s₂ = c .before .before .next-if2 .ensures in
     let l : a .c .at ≤ c .before .before .next-if2 .result .next .at = omega (arith, s .onward, s₂ .onward) in
     let e = sym (count-alike (a .count) (drop (a .c .at) x)) ∙ first-zero (λ (n : ℕ). n) (count-words-from 0 0) (a .count) (drop (a .c .at) x) (taken-is (s .is) (not-false (c .before .before .before .before .before .next-if .result .taken) (c .before .before .before .if1 .left))) (s₂ .is) in
-    counted x l (identifier (a .count) (drop (a .c .at) x)) e (c .count-rounds2 .result) (c .count-rounds2 .ensures (suc (length (drop (a .c .at) x))) (fuel-enough x (a .c .at) (c .before .before .next-if2 .result .next .at) l))
+    counted x l (identifier (a .count) (drop (a .c .at) x)) e (c .count-rounds .result) (c .count-rounds .ensures (suc (length (drop (a .c .at) x))) (fuel-enough x (a .c .at) (c .before .before .next-if2 .result .next .at) l))
 
 pub identifier-count-spec : {M : Type 1} → statement M
 identifier-count-spec =
     tie.close
     (tie.spec
     next-if-requires
-    count-rounds-requires
+    plain-count-requires
     returns
     next-if-requires-2
-    count-rounds-requires-2
+    count-rounds-requires
     returns-2)
