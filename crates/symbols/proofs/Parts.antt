@@ -1,18 +1,20 @@
 -- Prefixes, the first dot and the parts of a symbol. Assumes nothing.
-use mathlib.Core.Path.{_≡_, refl, sym, ap, _∙_}
+use mathlib.Core.Path.{_≡_, refl, sym, subst, ap, _∙_}
 use mathlib.Core.Bool.{Bool, true, false}
 use mathlib.Core.List.{List, [], _∷_}
 use mathlib.Core.Option.{Option, some, none}
-use Prim.Native.Nat.{ℕ, suc, _+_, _-_, _≤_, _<_}
+use Prim.Native.Nat.{ℕ, zero, suc, _+_, _-_, _≤_, _<_}
 use Prim.Native.String.{String}
 use native.Mathlib.Omega.{arith}
-use borrow.Author.Tests.{eq-eqb, ne-eqb}
+use borrow.Author.Tests.{eq-eqb, ne-eqb, eqb-false, not-true}
+use lib.Dec.{eqb}
 use lib.ListN.{length, getD, take, drop, length-drop}
 use lib.Seq.{drop-drop}
 use Rattle.definition.specs.Base.{bytes, is, same}
 use Rattle.definition.specs.Text as Text
 use Rattle.definition.specs.Text.{Text, prefixes, prefix-of, before-dot, split-at, split}
-use Rattle.symbols.specs.Symbol.{Ends, Parts, SplitIs}
+use Rattle.text.specs.Each.{Each}
+use Rattle.symbols.specs.Symbol.{no-dot, Ends, Parts, SplitIs}
 use Rattle.symbols.specs.declared.Symbol.{Symbol}
 use Rattle.symbols.specs.declared.Symbol.the-variants as Symbol
 use Rattle.text.proofs.Steps.{front, ended}
@@ -67,6 +69,20 @@ module _ (text : Text) (at : ℕ) where
   pub dot-none : length text ≤ at → length (before-dot (drop at text)) ≡ 0
   unfolding before-dot
   dot-none h = rw (ended text at h)
+
+-- bytes that are no dots are passed over
+pass : {text : Text} {from at : ℕ} (n to : ℕ) → at + n ≡ to → Seeking text from at → to ≤ length text → Each no-dot text at to → Seeking text from to
+pass {text} {from} {at} zero to e s l h = let k : at ≡ to = omega arith in subst (Seeking text from) k s
+pass {text} {from} {at} (suc n) to e s l h =
+    let i : at < length text = omega arith in
+    let d = dot-later text at i (eqb-false _ _ (not-true (eqb (getD text at 0) 46) (h .at at (omega arith) (omega arith)))) in
+    let o : from ≤ at = s .onward in
+    let next : Seeking text from (at + 1) = record { inside = omega arith; onward = omega arith; same-end = omega (arith, s .same-end, d) } in
+    let rest : Each no-dot text (at + 1) to = record { at = λ j g r. h .at j (omega arith) r } in
+    pass n to (omega arith) next l rest
+
+pub seek-past : (text : Text) (from at : ℕ) → (from ≤ at) × (at ≤ length text) × Each no-dot text from at → Seeking text from at
+seek-past text from at h = pass (at - from) at (omega (arith, h .0)) (record { inside = omega (arith, h .0, h .1); onward = omega arith; same-end = refl }) (h .1) (h .2)
 
 before-step : (b : ℕ) (t : Text) (d : Bool) → is "." b ≡ d → before-dot t ≡ take (length (before-dot t)) t → before-dot (b ∷ t) ≡ take (length (before-dot (b ∷ t))) (b ∷ t)
 unfolding before-dot

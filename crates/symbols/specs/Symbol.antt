@@ -1,8 +1,10 @@
 -- What an answer about a symbol's prefix and parts says of the definition. Assumes nothing.
 use mathlib.Core.Path.{_≡_}
+use mathlib.Core.Bool.{Bool, not}
 use mathlib.Core.Option.{Option, some, none}
 use Prim.Native.Nat.{ℕ, _+_, _-_, _≤_, _<_}
 use lib.ListN.{length, take, drop}
+use Rattle.definition.specs.Base.{is}
 use Rattle.definition.specs.Text as Text
 use Rattle.definition.specs.Text.{Text, before-dot}
 use Rattle.symbols.specs.declared.Prefixed.{Prefixed}
@@ -14,6 +16,9 @@ use Rattle.symbols.specs.declared.Symbol.the-variants as Symbol
 abbrev pub PrefixIs : Option ℕ → Prefixed → Type 0
 PrefixIs out (Prefixed.By n) = out ≡ some n
 PrefixIs out Prefixed.Not = out ≡ none
+
+abbrev pub no-dot : ℕ → Bool
+no-dot b = not (is "." b)
 
 -- what stands before the first dot at from or later ends at end
 pub record Ends (text : Text) (from end : ℕ) : Type 0 where

@@ -1,10 +1,12 @@
 // The parts of a symbol: prefix, body and suffix.
 ghost use mathlib.Core.Path.{_≡_};
-ghost use Prim.Native.Nat.{_≤_};
+ghost use mathlib.Core.Bool.{true};
+ghost use Prim.Native.Nat.{_+_, _≤_};
 ghost use lib.ListN.{length, take, drop};
 ghost use Rattle.definition.specs.Base.{same};
 ghost use Rattle.definition.specs.Text as Text;
-ghost use Rattle.symbols.specs.Symbol.{PrefixIs, Ends, SplitIs};
+ghost use Rattle.text.specs.Each.{Each};
+ghost use Rattle.symbols.specs.Symbol.{no-dot, PrefixIs, Ends, SplitIs};
 
 // The length of the prefix.
 pub enum Prefixed {
@@ -54,12 +56,43 @@ pub fn prefix(text: &[u8]) -> Prefixed
     Prefixed::Not
 }
 
+// Whether none of the eight bytes from a place on is a dot. No test waits for another, so the compiler makes one of all.
+fn eight_others(text: &[u8], at: usize) -> bool
+    requires { ⌜ at + 8 ≤ length (now text) ⌝ }
+    ensures { λ r. ⌜ (r ≡ true → Each no-dot (now (text .entry)) at (at + 8)) ⌝ }
+{
+    let first = (text[at] != 46)
+        & (text[at + 1] != 46)
+        & (text[at + 2] != 46)
+        & (text[at + 3] != 46);
+    let last = (text[at + 4] != 46)
+        & (text[at + 5] != 46)
+        & (text[at + 6] != 46)
+        & (text[at + 7] != 46);
+    first & last
+}
+
+// The place behind bytes that are no dots, eight at a time, from a place on.
+fn past_others(text: &[u8], from: usize) -> usize
+    requires { ⌜ from ≤ length (now text) ⌝ }
+    ensures { λ r. ⌜ (from ≤ r) × (r ≤ length (now (text .entry))) × Each no-dot (now (text .entry)) from r ⌝ }
+{
+    let mut at = from;
+    while 8 <= text.len() - at {
+        if !eight_others(text, at) {
+            return at;
+        }
+        at += 8;
+    }
+    at
+}
+
 // The place of the first dot, or the end.
 fn dot(text: &[u8], from: usize) -> usize
     requires { ⌜ from ≤ length (now text) ⌝ }
     ensures { λ r. ⌜ Ends (now (text .entry)) from r ⌝ }
 {
-    let mut at = from;
+    let mut at = past_others(text, from);
     while at < text.len() {
         if text[at] == b'.' {
             return at;

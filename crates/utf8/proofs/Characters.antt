@@ -1,19 +1,19 @@
 -- Characters of UTF-8 at a place of a text. Assumes nothing.
 use mathlib.Core.Path.{_≡_, refl, sym, subst, ap, _∙_}
-use mathlib.Core.Bool.{Bool, true, false, _&&_, false≢true}
+use mathlib.Core.Bool.{true, false}
 use mathlib.Core.List.{_∷_, map}
 use mathlib.Core.Option.{Option, some, none}
 use Prim.Native.Nat.{ℕ, zero, suc, _+_, _-_, _≤_, _<_}
 use native.Mathlib.Omega.{arith}
 use native.Mathlib.Numerals.{add-one}
-use borrow.Author.Tests.{lt-ltb, le-ltb, ltb-true, ltb-false}
-use lib.Dec.{ltb}
+use borrow.Author.Tests.{lt-ltb, le-ltb, ltb-true}
 use lib.ListN.{length, getD, drop, length-drop, List·getD-map}
 use lib.Seq.{drop-cons}
 use Rattle.definition.specs.Text.{Text, Row, row, rows, between, tails, second, by-row, character, ill-formed-from, ill-formed, well-formed}
-use Rattle.utf8.specs.Utf8.{row-at, Follows, Passed, Ascii}
+use Rattle.utf8.specs.Utf8.{row-at, Follows, Passed, below-80}
 use Rattle.utf8.specs.declared.Behind.{Behind}
 use Rattle.utf8.specs.declared.Behind.the-variants as Behind
+use Rattle.text.specs.Each.{Each}
 use Rattle.text.proofs.Steps.{front, ended}
 
 -- THE TABLE
@@ -141,51 +141,15 @@ module _ {text : Text} {at : ℕ} (s : Scanning text at) where
   pub scan-end : length text ≤ at → ill-formed text ≡ none
   scan-end h = s .same ∙ from-end text at (length text) (s .fuel) h
 
--- ASCII
--- one run behind another
-pub ascii-both : {text : Text} {at to next : ℕ} → Ascii text at to → Ascii text to next → Ascii text at next
-ascii-both {text} {at} {to} {next} g h = record { each = λ i l r. go i l r (ltb i to) refl }
-  where
-    go : (i : ℕ) → at ≤ i → i < next → (t : Bool) → ltb i to ≡ t → getD text i 0 < 128
-    go i l r true q = g .each i l (ltb-true i to q)
-    go i l r false q = h .each i (ltb-false i to q) r
-
-ascii-one : {text : Text} {at next : ℕ} → next ≡ at + 1 → ltb (getD text at 0) 128 ≡ true → Ascii text at next
-ascii-one {text} {at} e b = record { each = λ i l r. let k : at ≡ i = omega arith in subst (λ (j : ℕ). getD text j 0 < 128) k (ltb-true _ _ b) }
-
-pub ascii-none : {text : Text} {at : ℕ} → Ascii text at at
-ascii-none = record { each = λ i l r. absurd (omega arith) }
-
-both : (a b : Bool) → a && b ≡ true → (a ≡ true) × (b ≡ true)
-both true b e = (refl, e)
-both false b e = absurd (false≢true e)
-
--- four bytes that are tested together
-abbrev four : Text → (at a b c : ℕ) → Bool
-four text at a b c = ltb (getD text at 0) 128 && ltb (getD text a 0) 128 && ltb (getD text b 0) 128 && ltb (getD text c 0) 128
-
-ascii-four : (text : Text) {at a b c d : ℕ} → a ≡ at + 1 → b ≡ a + 1 → c ≡ b + 1 → d ≡ c + 1 → four text at a b c ≡ true → Ascii text at d
-ascii-four text ea eb ec ed e =
-    let p = both _ _ e in
-    let q = both _ _ (p .0) in
-    let r = both _ _ (q .0) in
-    ascii-both (ascii-both (ascii-both (ascii-one ea (r .0)) (ascii-one eb (r .1))) (ascii-one ec (q .1))) (ascii-one ed (p .1))
-
--- eight bytes that are tested together
-pub ascii-eight : (text : Text) (at : ℕ) → (four text at (at + 1) (at + 2) (at + 3) && four text (at + 4) (at + 5) (at + 6) (at + 7)) ≡ true → Ascii text at (at + 8)
-ascii-eight text at e =
-    let p = both _ _ e in
-    ascii-both (ascii-four text refl (omega arith) (omega arith) (omega arith) (p .0)) (ascii-four text (omega arith) (omega arith) (omega arith) (omega arith) (p .1))
-
--- bytes below 80 are passed over
-scan-ascii : {text : Text} {at : ℕ} (n to : ℕ) → at + n ≡ to → Scanning text at → to ≤ length text → Ascii text at to → Scanning text to
+-- ASCII is passed over
+scan-ascii : {text : Text} {at : ℕ} (n to : ℕ) → at + n ≡ to → Scanning text at → to ≤ length text → Each below-80 text at to → Scanning text to
 scan-ascii {text} {at} zero to e s l h = let k : at ≡ to = omega arith in subst (Scanning text) k s
 scan-ascii {text} {at} (suc n) to e s l h =
-    let b : getD text at 0 < 128 = h .each at (omega arith) (omega arith) in
+    let b : getD text at 0 < 128 = ltb-true _ _ (h .at at (omega arith) (omega arith)) in
     let one = scan-more s (omega arith) {next = at + 1} (record { is = character-ascii (getD text at 0) (drop (at + 1) text) b; inside = omega arith; onward = omega arith }) in
-    scan-ascii n to (omega arith) one l (record { each = λ i g r. h .each i (omega arith) r })
+    scan-ascii n to (omega arith) one l (record { at = λ i g r. h .at i (omega arith) r })
 
-pub scan-past : {text : Text} {at r : ℕ} → Scanning text at → (at ≤ r) × (r ≤ length text) × Ascii text at r → Scanning text r
+pub scan-past : {text : Text} {at r : ℕ} → Scanning text at → (at ≤ r) × (r ≤ length text) × Each below-80 text at r → Scanning text r
 scan-past {text} {at} {r} s h = scan-ascii (r - at) r (omega (arith, h .0)) s (h .1) (h .2)
 
 pub well-formed-no : (t : Text) {i : ℕ} → ill-formed t ≡ some i → well-formed t ≡ false

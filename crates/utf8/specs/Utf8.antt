@@ -1,8 +1,10 @@
 -- What an answer about UTF-8 says of the definition (RFC 3629). Assumes nothing.
 use mathlib.Core.Path.{_≡_}
+use mathlib.Core.Bool.{Bool}
 use mathlib.Core.Option.{Option, some, none}
 use mathlib.Core.List.{List}
 use Prim.Native.Nat.{ℕ, _≤_, _<_}
+use lib.Dec.{ltb}
 use lib.ListN.{length, getD, drop}
 use Rattle.definition.specs.Text.{Text, Row, row, rows, second, by-row}
 use Rattle.utf8.specs.declared.RowFound.{RowFound}
@@ -39,6 +41,6 @@ abbrev pub Placed : Option ℕ → IllFormed → Type 0
 Placed out (IllFormed.At i) = out ≡ some i
 Placed out IllFormed.Nowhere = out ≡ none
 
--- the bytes from one place to another are below 80 (hexadecimal)
-pub record Ascii (text : Text) (from to : ℕ) : Type 0 where
-  pub each : (i : ℕ) → from ≤ i → i < to → getD text i 0 < 128
+-- ASCII
+abbrev pub below-80 : ℕ → Bool
+below-80 b = ltb b 128

@@ -5,7 +5,8 @@ ghost use Prim.Native.Nat.{_+_, _-_, _≤_, _<_};
 ghost use lib.ListN.{length, getD, take, drop};
 ghost use Rattle.definition.specs.Text as Text;
 ghost use Rattle.definition.specs.Text.{rows};
-ghost use Rattle.utf8.specs.Utf8.{Ascii, RowIs, Passed, Placed, row-at};
+ghost use Rattle.text.specs.Each.{Each};
+ghost use Rattle.utf8.specs.Utf8.{below-80, RowIs, Passed, Placed, row-at};
 
 // The place of the first ill-formed sequence.
 pub enum IllFormed {
@@ -137,7 +138,7 @@ fn character(text: &[u8], at: usize) -> Behind
 // Whether the eight bytes from a place on are all below 80. No test waits for another, so the compiler makes one of all.
 fn eight_ascii(text: &[u8], at: usize) -> bool
     requires { ⌜ at + 8 ≤ length (now text) ⌝ }
-    ensures { λ r. ⌜ (r ≡ true → Ascii (now (text .entry)) at (at + 8)) ⌝ }
+    ensures { λ r. ⌜ (r ≡ true → Each below-80 (now (text .entry)) at (at + 8)) ⌝ }
 {
     let first = (text[at] < 128)
         & (text[at + 1] < 128)
@@ -153,7 +154,7 @@ fn eight_ascii(text: &[u8], at: usize) -> bool
 // The place behind bytes below 80, eight at a time, from a place on.
 fn past_ascii(text: &[u8], from: usize) -> usize
     requires { ⌜ from ≤ length (now text) ⌝ }
-    ensures { λ r. ⌜ (from ≤ r) × (r ≤ length (now (text .entry))) × Ascii (now (text .entry)) from r ⌝ }
+    ensures { λ r. ⌜ (from ≤ r) × (r ≤ length (now (text .entry))) × Each below-80 (now (text .entry)) from r ⌝ }
 {
     let mut at = from;
     while 8 <= text.len() - at {

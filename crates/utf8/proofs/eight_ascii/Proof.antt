@@ -1,6 +1,7 @@
 -- `utf8::eight_ascii` meets its contract. Assumes nothing.
 use borrow.Author.Needs.{needs}
-use Rattle.utf8.proofs.Characters.{ascii-eight}
+use Rattle.text.proofs.Eights.{each-eight}
+use Rattle.utf8.specs.Utf8.{below-80}
 use Rattle.utf8.proofs.eight_ascii.Statement.{statement}
 use Rattle.utf8.proofs.eight_ascii.Tie as tie
 
@@ -50,7 +51,7 @@ shared-slice-read-last-4 : tie.Need-shared-slice-read-last-4
 shared-slice-read-last-4 c = search needs
 
 returns : tie.Need-returns
-returns c = ascii-eight (c .before .before .before .before .before .before .before .before .args .text .now) (c .before .before .before .before .before .before .before .before .args .at)
+returns c = each-eight below-80 (c .before .before .before .before .before .before .before .before .args .text .now) (c .before .before .before .before .before .before .before .before .args .at)
 
 pub eight-ascii-spec : {M : Type 1} → statement M
 eight-ascii-spec =

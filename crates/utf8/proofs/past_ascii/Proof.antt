@@ -4,19 +4,20 @@ use native.Mathlib.Omega.{arith}
 use borrow.Author.Needs.{needs}
 use borrow.Author.Tests.{not-false}
 use lib.ListN.{length}
-use Rattle.utf8.specs.Utf8.{Ascii}
-use Rattle.utf8.proofs.Characters.{ascii-none, ascii-both}
+use Rattle.text.specs.Each.{Each}
+use Rattle.text.proofs.Eights.{each-none, each-both}
+use Rattle.utf8.specs.Utf8.{below-80}
 use Rattle.utf8.proofs.past_ascii.Statement.{statement}
 use Rattle.utf8.proofs.past_ascii.Tie as tie
 
 abbrev Inv-loop : tie.InvT-loop
-Inv-loop text from at₀ at = (from ≤ at) × (at ≤ length text) × Ascii text from at
+Inv-loop text from at₀ at = (from ≤ at) × (at ≤ length text) × Each below-80 text from at
 
 abbrev μ-loop : tie.MeasureT-loop
 μ-loop text from at₀ at = length text - at
 
 loop-holds : tie.Need-loop-holds Inv-loop μ-loop
-loop-holds c = (omega arith, c .before .pre, ascii-none)
+loop-holds c = (omega arith, c .before .pre, each-none below-80 _)
 
 sub-loop : tie.Need-sub-loop Inv-loop μ-loop
 sub-loop c = c .loop .inv .1
@@ -36,7 +37,7 @@ loop-less c = omega arith
 loop-again : tie.Need-loop-again Inv-loop μ-loop
 loop-again c =
     let h = c .before .before .before .loop .inv in
-    (omega (arith, h .0), omega arith, ascii-both (h .2) (c .before .eight-ascii .ensures (not-false _ (c .if1 .left))))
+    (omega (arith, h .0), omega arith, each-both below-80 _ (h .2) (c .before .eight-ascii .ensures (not-false _ (c .if1 .left))))
 
 returns-2 : tie.Need-returns-2 Inv-loop μ-loop
 returns-2 c = c .before .loop .inv

@@ -1,0 +1,58 @@
+-- `symbols::past_others` meets its contract. Assumes nothing.
+use Prim.Native.Nat.{_≤_, _-_}
+use native.Mathlib.Omega.{arith}
+use borrow.Author.Needs.{needs}
+use borrow.Author.Tests.{not-false}
+use lib.ListN.{length}
+use Rattle.text.specs.Each.{Each}
+use Rattle.text.proofs.Eights.{each-none, each-both}
+use Rattle.symbols.specs.Symbol.{no-dot}
+use Rattle.symbols.proofs.past_others.Statement.{statement}
+use Rattle.symbols.proofs.past_others.Tie as tie
+
+abbrev Inv-loop : tie.InvT-loop
+Inv-loop text from at₀ at = (from ≤ at) × (at ≤ length text) × Each no-dot text from at
+
+abbrev μ-loop : tie.MeasureT-loop
+μ-loop text from at₀ at = length text - at
+
+loop-holds : tie.Need-loop-holds Inv-loop μ-loop
+loop-holds c = (omega arith, c .before .pre, each-none no-dot _)
+
+sub-loop : tie.Need-sub-loop Inv-loop μ-loop
+sub-loop c = c .loop .inv .1
+
+eight-others-requires : tie.Need-eight-others-requires Inv-loop μ-loop
+eight-others-requires c κs = let h = c .before .loop .inv .1 in omega arith
+
+returns : tie.Need-returns Inv-loop μ-loop
+returns c = c .before .before .before .loop .inv
+
+add-at : tie.Need-add-at Inv-loop μ-loop
+add-at c = omega arith
+
+loop-less : tie.Need-loop-less Inv-loop μ-loop
+loop-less c = omega arith
+
+loop-again : tie.Need-loop-again Inv-loop μ-loop
+loop-again c =
+    let h = c .before .before .before .loop .inv in
+    (omega (arith, h .0), omega arith, each-both no-dot _ (h .2) (c .before .eight-others .ensures (not-false _ (c .if1 .left))))
+
+returns-2 : tie.Need-returns-2 Inv-loop μ-loop
+returns-2 c = c .before .loop .inv
+
+pub past-others-spec : {M : Type 1} → statement M
+past-others-spec =
+    tie.close
+    (tie.spec
+    Inv-loop
+    μ-loop
+    loop-holds
+    sub-loop
+    eight-others-requires
+    returns
+    add-at
+    loop-less
+    loop-again
+    returns-2)
