@@ -102,26 +102,29 @@ fn in_turn(work: &mut [Box<dyn FnMut() -> usize + '_>]) -> Vec<f64> {
 fn main() {
     let mut args = std::env::args().skip(1);
     match args.next().as_deref() {
-        Some("names") => print!("{}", list().join("\n") + "\n"),
+        Some("names") => println!("{}", list()),
         Some("run") => measured(&args.collect::<Vec<_>>()),
         Some("one") => one(&args.next().unwrap(), &args.next().unwrap()),
+        Some("readings") => readings(&list().lines().collect::<Vec<_>>()),
         Some("all") => all(&args.collect::<Vec<_>>()),
         _ => {
-            eprintln!("usage: bench all FOLDER NAMES | bench names");
+            eprintln!("usage: bench all FOLDER NAMES | bench readings | bench names");
             std::process::exit(2);
         }
     }
 }
 
-/// 20,000 names that the Rust and Swift's own demangler read and that charge at most 256.
-fn list() -> Vec<String> {
+/// 20,000 names that the Rust and Swift's own demangler read and that charge at most 256, as the lines of one text, as a file has them:
+/// names that each have memory of their own would have every contender wait for it.
+fn list() -> String {
     let mut out = vec![0; 1 << 20];
-    names::names(NAMES, names::SEED, |text| swift_demangle::demangle(text).is_some() && own::demangle(text.as_bytes(), &mut out).is_some())
+    names::names(NAMES, names::SEED, |text| swift_demangle::demangle(text).is_some() && own::demangle(text.as_bytes(), &mut out).is_some()).join("\n")
 }
 
 fn all(args: &[String]) {
     let [folder, program, how @ ..] = args else { panic!("folder and program") };
     let list = list();
+    let list: Vec<&str> = list.lines().collect();
     println!("{}\n", machine(how));
     readings(&list);
     filters(&list, folder, program);
@@ -148,8 +151,8 @@ fn thousands(n: f64) -> String {
     out
 }
 
-fn readings(list: &[String]) {
-    let mut lengths: Vec<usize> = list.iter().map(String::len).collect();
+fn readings(list: &[&str]) {
+    let mut lengths: Vec<usize> = list.iter().map(|t| t.len()).collect();
     lengths.sort();
     let texts: usize = list.iter().map(|t| swift_demangle::demangle(t).unwrap().len()).sum();
     let mean = |n: usize| n as f64 / list.len() as f64;
@@ -217,7 +220,7 @@ fn measured(args: &[String]) {
     }
 }
 
-fn filters(list: &[String], folder: &str, program: &str) {
+fn filters(list: &[&str], folder: &str, program: &str) {
     let input = format!("{folder}/names.in");
     let text = list.join("\n") + "\n";
     std::fs::write(&input, text.repeat(REPEATED)).unwrap();
