@@ -1,135 +1,109 @@
 -- The steps that choose by a letter, and the answers that stand for them. Assumes nothing.
-use mathlib.Core.Path.{_≡_, refl, ap, subst, _∙_}
-use mathlib.Core.Bool.{true, false}
+use mathlib.Core.Path.{_≡_, refl, ap, _∙_}
 use mathlib.Core.List.{List, [], _∷_}
 use mathlib.Core.Option.{Option, some, none}
-use Prim.Native.Nat.{ℕ, _+_, _≤_, _<_}
+use Prim.Native.Nat.{ℕ, _+_, _≤_}
 use Prim.Native.Char.{Char, code}
 use native.Mathlib.Omega.{arith}
-use borrow.Author.Tests.{lt-ltb, ne-eqb}
-use lib.Dec.{eqb, ltb}
-use lib.ListN.{take, drop}
-use Rattle.definition.specs.Base.{if_then_else_, given, Out, ok, refused, pick, and-then, or-refuse, ret}
+use lib.ListN.{length, drop}
+use Rattle.definition.specs.Base.{given, Out, ok, refused, pick, and-then, or-refuse, ret}
 use Rattle.definition.specs.Text.{Text, Lex, next}
-use Rattle.definition.specs.Operators.{Operator, choose, choose-then, operator, operators, substitutions-letters, async-types, function-entities, context-descriptors, field-offsets, special-types, metatype-records, witnesses, thunks}
-use Rattle.definition.specs.Operators.{opened as opened₀}
-use Rattle.operators.specs.Tables.{lifted, first-letters, row-table, meaning, kinds-below, picked, step-at, Row, Searched, At}
-use Rattle.letters.specs.Answers.{Operated}
+use Rattle.definition.specs.Operators.{Operator, choose, choose-then, operator, operators}
+use Rattle.definition.specs.Enums.{number}
+use Rattle.definition.specs.declared.Refusal.{Refusal}
+use Rattle.text.specs.Cursor.{Byted}
+use Rattle.text.specs.declared.Byte.{Byte}
+use Rattle.text.specs.declared.Byte.the-variants as Byte
+use Rattle.text.specs.declared.Cursor.{Cursor}
+use Rattle.letters.specs.Answers.{Stands, Operated}
 use Rattle.operators.specs.Answers.{Begun}
-use Rattle.letters.proofs.Places.{pick-later}
-use Rattle.operators.proofs.Rows.{kind-is}
+use Rattle.letters.proofs.Answered.{operated-is, byte-read, byte-refused}
+use Rattle.letters.proofs.Places.{Absent, absent}
 use Rattle.letters.specs.declared.OperatorRead.{OperatorRead}
 use Rattle.letters.specs.declared.OperatorRead.the-variants as OperatorRead
-use Rattle.operators.specs.declared.Coded.{Coded}
-use Rattle.operators.specs.declared.Found.{Found}
-use Rattle.operators.specs.declared.Found.the-variants as Found
 
-module _ (b start count : ℕ) {r : Found} where
-  pub found-at : {n : ℕ} → r ≡ Found.At n → Searched b start count r → At b start count n
-  found-at e h = subst (Searched b start count) e h
+-- NO LETTER OF A TABLE
+-- what is known where no arm of a match on b was taken, with an arm for each letter of the table, in its order: behind P, one refutation a letter
+abbrev pub Past : {A : Type 0} → Type 0 → ℕ → List (Char × A) → Type 0
+Past P b [] = P
+Past P b (e ∷ es) = Past (P × (b ≡ code (e .0) → ⊥)) b es
 
-  pub found-nothing : r ≡ Found.Nothing → Searched b start count r → Searched b start count Found.Nothing
-  found-nothing e h = subst (Searched b start count) e h
+past-all : {A : Type 0} (P : Type 0) (b : ℕ) (table : List (Char × A)) → Past P b table → P × Absent b table
+past-all P b [] h = (h, tt)
+past-all P b (e ∷ es) h = let r = past-all (P × (b ≡ code (e .0) → ⊥)) b es h in (r .0 .0, (r .0 .1, r .1))
+
+pub past : {A : Type 0} (b : ℕ) (table : List (Char × A)) → Past (Unit {0}) b table → pick b table ≡ none
+past b table h = absent b table (past-all (Unit {0}) b table h .1)
+
+-- in the arm of the letter k: b's entry is k's
+pub letter : {A : Type 0} (table : List (Char × A)) {b k : ℕ} {a : A} → b ≡ k → pick k table ≡ some a → pick b table ≡ some a
+letter table e p = ap (λ (x : ℕ). pick x table) e ∙ p
 
 -- CHOICES
-pub picked-is : {o o′ : Option (Lex Operator)} (t : Text) → o ≡ o′ → picked o t ≡ picked o′ t
-picked-is t e = ap (λ o. picked o t) e
+-- the byte b was read at the place `from`, and the cursor c stands behind it
+pub record Behind (text : Text) (from b : ℕ) (c : Cursor) : Type 0 where
+  pub is : next (drop from text) ≡ ok b (drop (c .at) text)
+  pub inside : c .at ≤ length text
+  pub onward : from ≤ c .at
 
-chosen : (o : Option (Lex Operator)) (t : Text) → and-then (or-refuse 9 o t) (λ m. m) ≡ picked o t
-chosen none t = refl
-chosen (some m) t = refl
+module _ (text : Text) (from : ℕ) {r : Byte} where
+  pub behind : {b : ℕ} {c : Cursor} → r ≡ Byte.Read b c → Byted (next (drop from text)) text from r → Behind text from b c
+  behind e h = let g = byte-read text from e h in record { is = g .is; inside = g .inside; onward = let l = g .onward in omega arith }
 
-module _ (table : List (Char × Lex Operator)) (t : Text) where
-  pub choose-then-read : {b : ℕ} {u : Text} → next t ≡ ok b u → choose-then table t ≡ picked (pick b table) u
-  unfolding choose-then choose
-  choose-then-read {b} {u} e = ap (λ o. and-then (and-then o (λ c. or-refuse 9 (pick c table))) (λ m. m)) e ∙ chosen (pick b table) u
+module _ {A : Type 0} (table : List (Char × A)) {text : Text} {from b : ℕ} {c : Cursor} (h : Behind text from b c) where
+  choose-is : {o : Option A} → pick b table ≡ o → choose table (drop from text) ≡ or-refuse 9 o (drop (c .at) text)
+  unfolding choose
+  choose-is e = ap (λ o. and-then o (λ x. or-refuse 9 (pick x table))) (h .is) ∙ ap (λ o. or-refuse 9 o (drop (c .at) text)) e
 
-  pub choose-then-refused : {n : ℕ} → next t ≡ refused n → choose-then table t ≡ refused n
-  unfolding choose-then choose
-  choose-then-refused e = ap (λ o. and-then (and-then o (λ c. or-refuse 9 (pick c table))) (λ m. m)) e
+-- a table of operators: in the arm of the letter k, and in that of no letter
+module _ (table : List (Char × Operator)) {text : Text} {from b : ℕ} {c : Cursor} (h : Behind text from b c) where
+  pub chosen : {k : ℕ} {q : Operator} → b ≡ k → pick k table ≡ some q → Stands (choose table (drop from text)) q text from c
+  chosen e p = record { is = choose-is table h (letter table e p); inside = h .inside; onward = h .onward }
 
--- a table of operators chooses like the table of their steps
-lifted-picks : (b : ℕ) (table : List (Char × Operator)) (u : Text) → or-refuse 9 (pick b table) u ≡ and-then (or-refuse 9 (pick b (lifted table)) u) (λ m. m)
-unfolding pick lifted
-lifted-picks b [] u = refl
-lifted-picks b (e ∷ es) u =
-    elim (eqb b (code (e .0))) as (λ t. _≡_ {A = Out Text Operator} (or-refuse 9 (elim t [ true ↦ some (e .1) | false ↦ pick b es ]) u) (and-then (or-refuse 9 (elim t [ true ↦ some (ret (e .1)) | false ↦ pick b (lifted es) ]) u) (λ m. m))) [
-      | true ↦ refl
-      | false ↦ lifted-picks b es u
-    ]
+  pub no-choice : Past (Unit {0}) b table → choose table (drop from text) ≡ refused 9
+  no-choice m = choose-is table h (past b table m)
 
-lifted-chooses : (table : List (Char × Operator)) (o : Out Text ℕ) → and-then o (λ c. or-refuse 9 (pick c table)) ≡ and-then (and-then o (λ c. or-refuse 9 (pick c (lifted table)))) (λ m. m)
-lifted-chooses table (ok b u) = lifted-picks b table u
-lifted-chooses table (refused n) = refl
+-- a table of steps: the same, and an arm that goes on with a step
+module _ (table : List (Char × Lex Operator)) {text : Text} {from b : ℕ} {c : Cursor} (h : Behind text from b c) where
+  step-is : {k : ℕ} {m : Lex Operator} → b ≡ k → pick k table ≡ some m → choose-then table (drop from text) ≡ m (drop (c .at) text)
+  unfolding choose-then
+  step-is e p = ap (λ o. and-then o (λ m. m)) (choose-is table h (letter table e p))
 
-pub choose-lifted : (table : List (Char × Operator)) (t : Text) → choose table t ≡ choose-then (lifted table) t
-unfolding choose choose-then
-choose-lifted table t = lifted-chooses table (next t)
+  pub chosen-then : {k : ℕ} {q : Operator} → b ≡ k → pick k table ≡ some (ret q) → Stands (choose-then table (drop from text)) q text from c
+  chosen-then e p = record { is = step-is e p; inside = h .inside; onward = h .onward }
 
--- each table's rows
-module _ (t : Text) where
-  pub async-rows : choose async-types t ≡ choose-then (take 1 (drop 0 row-table)) t
-  unfolding opened₀ row-table lifted first-letters
-  async-rows = choose-lifted async-types t
+  pub chosen-step : {k : ℕ} {m : Lex Operator} → b ≡ k → pick k table ≡ some m → (r : OperatorRead) → Operated (m (drop (c .at) text)) text (c .at) r → Operated (choose-then table (drop from text)) text from r
+  chosen-step e p r g = operated-is text (step-is e p) (h .onward) r g
 
-  pub function-rows : choose function-entities t ≡ choose-then (take 7 (drop 1 row-table)) t
-  unfolding opened₀ row-table lifted first-letters
-  function-rows = choose-lifted function-entities t
+  pub no-choice-then : Past (Unit {0}) b table → choose-then table (drop from text) ≡ refused 9
+  unfolding choose-then
+  no-choice-then m = ap (λ o. and-then o (λ m. m)) (choose-is table h (past b table m))
 
-  pub context-rows : choose context-descriptors t ≡ choose-then (take 3 (drop 8 row-table)) t
-  unfolding opened₀ row-table lifted first-letters
-  context-rows = choose-lifted context-descriptors t
+-- where there was no letter
+module _ (text : Text) (from : ℕ) {r : Byte} {f : Refusal} (e : r ≡ Byte.Refused f) (h : Byted (next (drop from text)) text from r) where
+  pub choose-refused : {A : Type 0} (table : List (Char × A)) → choose table (drop from text) ≡ refused (number f)
+  unfolding choose
+  choose-refused table = ap (λ o. and-then o (λ x. or-refuse 9 (pick x table))) (byte-refused text from e h)
 
-  pub field-rows : choose field-offsets t ≡ choose-then (take 2 (drop 11 row-table)) t
-  unfolding opened₀ row-table lifted first-letters
-  field-rows = choose-lifted field-offsets t
-
-  pub special-rows : choose-then special-types t ≡ choose-then (take 11 (drop 13 row-table)) t
-  unfolding opened₀ row-table lifted first-letters
-  special-rows = refl
-
-  pub metatype-rows : choose-then metatype-records t ≡ choose-then (take 21 (drop 24 row-table)) t
-  unfolding opened₀ row-table lifted first-letters
-  metatype-rows = refl
-
-  pub witness-rows : choose-then witnesses t ≡ choose-then (take 8 (drop 45 row-table)) t
-  unfolding opened₀ row-table lifted first-letters
-  witness-rows = refl
-
-  pub thunk-rows : choose-then thunks t ≡ choose-then (take 16 (drop 53 row-table)) t
-  unfolding opened₀ row-table lifted first-letters
-  thunk-rows = refl
-
--- ROWS
-pub row-step : (n : ℕ) (r : Coded) (t : Text) → Row n r → step-at n t ≡ meaning (r .kind) (r .name) t
-row-step n r t h = ap (λ o. picked o t) (h .is)
-
--- where its kind is known
-pub row-of-kind : (n : ℕ) (r : Coded) (t : Text) {k : ℕ} → Row n r → r .kind ≡ k → step-at n t ≡ meaning k (r .name) t
-row-of-kind n r t h e = row-step n r t h ∙ ap (λ (m : Lex Operator). m t) (kind-is (r .name) e)
-
-pub ready-kinds : {n : ℕ} → n < 13 → kinds-below n ≡ 37
-unfolding kinds-below
-ready-kinds {n} h = rw (lt-ltb n 13 h)
-
-pub row-kinds-below : (n : ℕ) → n < 69 → kinds-below n ≤ 41
-unfolding kinds-below
-row-kinds-below n h = elim (ltb n 13) as (λ t. (if t then 37 else if ltb n 69 then 41 else 54) ≤ 41) [ true ↦ omega arith | false ↦ rw (lt-ltb n 69 h) (omega arith) ]
+  pub choose-then-refused : (table : List (Char × Lex Operator)) → choose-then table (drop from text) ≡ refused (number f)
+  unfolding choose-then
+  choose-then-refused table = ap (λ o. and-then o (λ m. m)) (choose-refused table)
 
 -- THE FIRST LETTER
-given-picked : (o : Option (Lex Operator)) (t : Text) → given o (refused 9) (λ m. m t) ≡ picked o t
-given-picked none t = refl
-given-picked (some m) t = refl
+module _ (b : ℕ) (t : Text) where
+  begins : {k : ℕ} {m : Lex Operator} → b ≡ k → pick k operators ≡ some m → operator b t ≡ m t
+  unfolding operator
+  begins e p = ap (λ o. given o (refused 9) (λ m. m t)) (letter operators e p)
 
-pub first-letter : (b : ℕ) (t : Text) → (b ≡ 65 → ⊥) → operator b t ≡ picked (pick b first-letters) t
-unfolding operator operators first-letters
-first-letter b t n = given-picked (pick b operators) t ∙ picked-is t (pick-later b "A" substitutions-letters first-letters (ne-eqb b 65 n))
+  pub no-operator : Past (Unit {0}) b operators → operator b t ≡ refused 9
+  unfolding operator
+  no-operator h = ap (λ o. given o (refused 9) (λ m. m t)) (past b operators h)
 
-pub begun-is : (b : ℕ) (text : Text) (at : ℕ) {o o′ : Out Text Operator} → o ≡ o′ → (r : OperatorRead) → Operated o′ text (at + 1) r → Begun b o text at r
-begun-is b text at e (OperatorRead.Read q c) h = record { is = e ∙ h .is; inside = h .inside; onward = h .onward }
-begun-is b text at e (OperatorRead.Substitutions c) h = absurd h
-begun-is b text at e (OperatorRead.Refused f) h = e ∙ h
+module _ (text : Text) (at : ℕ) {b k : ℕ} where
+  pub first-is : {q : Operator} → at + 1 ≤ length text → b ≡ k → pick k operators ≡ some (ret q) → Stands (operator b (drop (at + 1) text)) q text (at + 1) (record { at = at + 1 })
+  first-is h e p = record { is = begins b (drop (at + 1) text) e p; inside = h; onward = omega arith }
 
-pub kinds-below-all : (n : ℕ) → kinds-below n ≤ 54
-unfolding kinds-below
-kinds-below-all n = elim (ltb n 13) as (λ t. (if t then 37 else if ltb n 69 then 41 else 54) ≤ 54) [ true ↦ omega arith | false ↦ elim (ltb n 69) as (λ t. (if t then 41 else 54) ≤ 54) [ true ↦ omega arith | false ↦ omega arith ] ]
+  pub first-step : {m : Lex Operator} → b ≡ k → pick k operators ≡ some m → (r : OperatorRead) → Operated (m (drop (at + 1) text)) text (at + 1) r → Begun b (operator b (drop (at + 1) text)) text at r
+  first-step e p (OperatorRead.Read q c) h = record { is = begins b (drop (at + 1) text) e p ∙ h .is; inside = h .inside; onward = h .onward }
+  first-step e p (OperatorRead.Substitutions c) h = absurd h
+  first-step e p (OperatorRead.Refused f) h = begins b (drop (at + 1) text) e p ∙ h

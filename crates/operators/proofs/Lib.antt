@@ -1,4 +1,2 @@
-pub mod Rows
 pub mod Choices
-pub mod OperandTables
 pub mod OperandSteps

@@ -2,13 +2,14 @@
 use mathlib.Core.Path.{_≡_, refl, sym, ap, subst, _∙_}
 use mathlib.Core.List.{List, [], _∷_}
 use mathlib.Core.Option.{Option, some, none}
-use Prim.Native.Nat.{ℕ, _+_, _/_, _%_, _≤_, _<_}
+use Prim.Native.Nat.{ℕ, zero, suc, _+_, _≤_, _<_}
+use native.Mathlib.Omega.{arith}
 use Prim.Native.Char.{Char}
 use Prim.Native.String.{String}
 use lib.ListN.{length, getD, drop, List·getD-eq-default}
-use Rattle.definition.specs.Base.{given, Out, ok, refused, pick, and-then, ret, refuse, good, bad}
+use Rattle.definition.specs.Base.{given, Out, ok, refused, bytes, pick, and-then, ret, or-refuse, _>>=_, good, bad}
 use Rattle.definition.specs.Text.{Text, Lex, Param, next}
-use Rattle.definition.specs.Operators.{Operator, Subject, archetypes, requirements, requirement-letters, requiring, requiring-layout, conforms, superclass, same-type, on-param, on-member, of-stack, layouts, choose, choose-then, choose-late, variable, accessors, value-witness-letters}
+use Rattle.definition.specs.Operators.{Operator, Subject, archetypes, requirements, requirement-letters, requiring, requiring-layout, conforms, on-param, on-member, of-stack, layouts, choose, choose-then, choose-late, variable, accessors, value-witness, value-witnesses, value-witness-letters}
 use Rattle.definition.specs.Enums.{number}
 use Rattle.definition.specs.Enums as Enums
 use Rattle.definition.specs.declared.Refusal.{Refusal}
@@ -19,9 +20,13 @@ use Rattle.text.specs.Cursor.{Parameter}
 use Rattle.text.specs.declared.Cursor.{Cursor}
 use Rattle.text.specs.declared.ParamRead.{ParamRead}
 use Rattle.text.specs.declared.ParamRead.the-variants as ParamRead
-use Rattle.operators.specs.Operands.{archetype-letters, archetype-letter, on-target, requirement-kind, layout-letter, accessor-late, witness-second}
+use Rattle.fixed_names.specs.Fixed.{fixed}
+use Rattle.operators.specs.Operands.{archetype-letters, archetype-letter, on-target, layout-letter, accessor-late, witness-letters, name-if-any}
 use Rattle.letters.proofs.Places.{absent}
-use Rattle.letters.specs.Answers.{Stands}
+use Rattle.letters.proofs.Answered.{operated-is}
+use Rattle.operators.proofs.Choices.{Past, past, letter, Behind}
+use Rattle.letters.specs.Answers.{Stands, Operated}
+use Rattle.letters.specs.declared.OperatorRead.{OperatorRead}
 use Rattle.operators.specs.Answers.{Subjected}
 use Rattle.operators.specs.declared.SubjectRead.{SubjectRead}
 use Rattle.operators.specs.declared.SubjectRead.the-variants as SubjectRead
@@ -72,35 +77,6 @@ pub target-member : (b : ℕ) (t : Text) → 2 ≤ b → on-target b t ≡ on-me
 unfolding on-target
 target-member b t h = ap (λ (m : Lex Subject). m t) (List·getD-eq-default (on-param ∷ ret of-stack ∷ []) on-member h)
 
--- the constraint's step, on what the code k says
-constraint-rows : ℕ → List (Lex Operator)
-constraint-rows k = requiring (on-target (k % 3)) conforms ∷ requiring (on-target (k % 3)) superclass ∷ requiring (on-target (k % 3)) same-type ∷ requiring-layout (on-target (k % 3)) ∷ []
-
-module _ (k : ℕ) (t : Text) where
-  kind-at : {j : ℕ} → k / 3 ≡ j → requirement-kind k t ≡ getD (constraint-rows k) j (refuse 9) t
-  unfolding requirement-kind constraint-rows
-  kind-at e = ap (λ (j : ℕ). getD (constraint-rows k) j (refuse 9) t) e
-
-  pub kind-conforms : k / 3 ≡ 0 → requirement-kind k t ≡ requiring (on-target (k % 3)) conforms t
-  unfolding constraint-rows
-  kind-conforms e = kind-at e
-
-  pub kind-superclass : k / 3 ≡ 1 → requirement-kind k t ≡ requiring (on-target (k % 3)) superclass t
-  unfolding constraint-rows
-  kind-superclass e = kind-at e
-
-  pub kind-same-type : k / 3 ≡ 2 → requirement-kind k t ≡ requiring (on-target (k % 3)) same-type t
-  unfolding constraint-rows
-  kind-same-type e = kind-at e
-
-  pub kind-layout : k / 3 ≡ 3 → requirement-kind k t ≡ requiring-layout (on-target (k % 3)) t
-  unfolding constraint-rows
-  kind-layout e = kind-at e
-
-  pub kind-refused : 4 ≤ k / 3 → requirement-kind k t ≡ refused 9
-  unfolding requirement-kind constraint-rows
-  kind-refused h = ap (λ (m : Lex Operator). m t) (List·getD-eq-default (constraint-rows k) (refuse 9) h)
-
 pub requiring-layout-is : (m : Lex Subject) (t : Text) → requiring-layout m t ≡ and-then (m t) layout-letter
 unfolding requiring-layout
 requiring-layout-is m t = refl
@@ -124,6 +100,10 @@ module _ (text : Text) (at : ℕ) where
     unfolding requirement-letters
     requirement-none e = rw (front text at h, requirement-letters, e)
 
+  -- in the arm of a letter that goes on with a step
+  pub required : at < length text → {k : ℕ} {m : Lex Operator} → getD text at 0 ≡ k → pick k requirements ≡ some m → (r : OperatorRead) → Operated (m (drop (at + 1) text)) text (at + 1) r → Operated (requirement-letters (drop at text)) text at r
+  required h e p r g = operated-is text (requirement-some h (letter requirements e p)) (omega arith) r g
+
   pub requirement-end : length text ≤ at → requirement-letters (drop at text) ≡ refused 9
   unfolding requirement-letters
   requirement-end h = ap requirement-letters (ended text at h)
@@ -141,6 +121,50 @@ pub accessor-is : (b : ℕ) {o : Option (Option String)} → pick b accessors �
 accessor-is b e = ap (λ o. variable (given o (bad 9) good)) (sym e)
 
 -- `w`
-pub witness-first : (t : Text) → value-witness-letters t ≡ and-then (next t) witness-second
+-- the rest of `value-witness-letters`, behind both letters: the name that they have
+named : Option String → Lex Operator
+named o = or-refuse 9 o >>= λ kind. ret (value-witness (bytes kind))
+
+both-letters : (b : ℕ) (o : Option (List (Char × String))) (t : Text) → and-then (or-refuse 9 o t) (λ row. or-refuse 9 (pick b row) >>= λ kind. ret (value-witness (bytes kind))) ≡ named (given o none (pick b)) t
+unfolding named
+both-letters b none t = refl
+both-letters b (some row) t = refl
+
+-- in the arms of both letters, of the first alone, and of none
+pub both-known : {a b j k : ℕ} {o : Option String} → a ≡ j → b ≡ k → witness-letters j k ≡ o → o ≡ witness-letters a b
+both-known {a} {b} {j} {k} e f p = sym (ap (λ (x : ℕ). witness-letters x b) e ∙ ap (witness-letters j) f ∙ p)
+
+pub no-second : {a j : ℕ} (b : ℕ) {row : List (Char × String)} → a ≡ j → pick j value-witnesses ≡ some row → Past (Unit {0}) b row → none ≡ witness-letters a b
+no-second b {row} e p h = sym (ap (λ o. given o none (pick b)) (letter value-witnesses e p) ∙ past b row h)
+
+pub no-first : (a b : ℕ) → Past (Unit {0}) a value-witnesses → none ≡ witness-letters a b
+no-first a b h = sym (ap (λ o. given o none (pick b)) (past a value-witnesses h))
+
+pub numbered-name : (n : ℕ) → (n ≡ 0 → ⊥) → name-if-any n ≡ some (fixed n)
+numbered-name zero h = absurd (h refl)
+numbered-name (suc n) h = refl
+
+pub no-name : {n : ℕ} → n ≡ 0 → name-if-any n ≡ none
+no-name e = ap name-if-any e
+
+module _ {text : Text} {from a : ℕ} {c : Cursor} (h : Behind text from a c) where
+  pub second-refused : {n : ℕ} → next (drop (c .at) text) ≡ refused n → value-witness-letters (drop from text) ≡ refused n
+  unfolding value-witness-letters
+  second-refused e = rw (h .is, e)
+
+  module _ {b : ℕ} {d : Cursor} (g : Behind text (c .at) b d) where
+    witness-is : {o : Option String} → witness-letters a b ≡ o → value-witness-letters (drop from text) ≡ named o (drop (d .at) text)
+    unfolding value-witness-letters
+    witness-is e = rw (h .is, g .is) (both-letters b (pick a value-witnesses) (drop (d .at) text) ∙ ap (λ o. named o (drop (d .at) text)) e)
+
+    pub witness-read : {kind : String} → witness-letters a b ≡ some kind → Stands (value-witness-letters (drop from text)) (value-witness (bytes kind)) text from d
+    unfolding named
+    witness-read e = record { is = witness-is e; inside = g .inside; onward = omega arith }
+
+    pub witness-none : witness-letters a b ≡ none → value-witness-letters (drop from text) ≡ refused 9
+    unfolding named
+    witness-none e = witness-is e
+
+pub first-refused : (t : Text) {n : ℕ} → next t ≡ refused n → value-witness-letters t ≡ refused n
 unfolding value-witness-letters
-witness-first t = refl
+first-refused t e = rw e

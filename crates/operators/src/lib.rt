@@ -2,14 +2,11 @@
 ghost use mathlib.Core.Path.{_≡_};
 ghost use mathlib.Core.Bool.{false};
 ghost use Prim.Native.Nat.{_+_, _≤_, _<_};
-ghost use lib.ListN.{length, getD, take, drop};
-ghost use Rattle.definition.specs.Base.{pick, ret};
-ghost use Rattle.definition.specs.Text as Text;
+ghost use lib.ListN.{length, getD, drop};
 ghost use Rattle.definition.specs.Operators as Op;
 ghost use Rattle.definition.specs.Enums as Enums;
 ghost use Rattle.fixed_names.specs.Fixed.{fixed};
-ghost use Rattle.operators.specs.Tables.{row-table, meaning, picked, step-at, any-byte, Row, Searched};
-ghost use Rattle.operators.specs.Operands.{generic-param-letters, archetype-letters, archetype-letter, variable-letters, accessor-late, on-target, requirement-kind, layout-letter, witness-names, witness-name, witness-pair, witness-second};
+ghost use Rattle.operators.specs.Operands.{generic-param-letters, archetype-letters, archetype-letter, variable-letters, accessor-late, on-target, layout-letter, any-byte, witness-letters, name-if-any};
 ghost use Rattle.definition.specs.declared.Operator.the-variants as Operator;
 ghost use Rattle.letters.specs.Answers.{Operated};
 ghost use Rattle.operators.specs.Answers.{Subjected, Begun};
@@ -23,8 +20,6 @@ use definition::Param;
 use definition::Refusal;
 use definition::Subject;
 use letters::OperatorRead;
-use letters::place_of;
-use letters::wide;
 use signatures::generic_signature;
 use standard_types::standard;
 use text::Byte;
@@ -38,336 +33,7 @@ pub enum SubjectRead {
     Refused(Refusal),
 }
 
-// A row of the table of letters: its kind, and a fixed name where the kind has one. specs/Tables.antt lists the kinds.
-pub struct Coded {
-    pub kind: u8,
-    pub name: usize,
-}
-
-// The row of a letter.
-pub enum Found {
-    At(usize),
-    Nothing,
-}
-
-// Tables of letters
-
-// The letters behind `Y` (1), `f` (7), `MX` (3), `Wv` (2), `X` (11), `M` (21), `W` (8) and `T` (16), and those that begin an operator, but `A` (34).
-const ROW_LETTERS: [u8; 103] =
-    *b"aCcDdieEMEXdiEBCAKfLUlMpafmnFBSApcVKLiIlrPdRXVvlLPpaSWLSlnYqujVoODIXmCVOPaSsy_dKtcXYxqQzmpGRlrFvfZMNWwT";
-
-const ROW_KINDS: [u8; 103] = [
-    18,
-    13,
-    14,
-    15,
-    16,
-    17,
-    2,
-    2,
-    2,
-    2,
-    2,
-    1,
-    1,
-    7,
-    7,
-    7,
-    7,
-    7,
-    7,
-    7,
-    7,
-    9,
-    37,
-    8,
-    0,
-    0,
-    0,
-    0,
-    0,
-    0,
-    0,
-    0,
-    3,
-    4,
-    1,
-    5,
-    0,
-    0,
-    0,
-    0,
-    0,
-    0,
-    0,
-    0,
-    38,
-    0,
-    39,
-    6,
-    6,
-    4,
-    4,
-    4,
-    4,
-    10,
-    3,
-    3,
-    11,
-    12,
-    40,
-    1,
-    1,
-    1,
-    1,
-    1,
-    1,
-    1,
-    1,
-    1,
-    1,
-    19,
-    20,
-    21,
-    22,
-    23,
-    41,
-    24,
-    25,
-    26,
-    27,
-    28,
-    29,
-    7,
-    42,
-    43,
-    30,
-    44,
-    45,
-    31,
-    8,
-    32,
-    33,
-    46,
-    34,
-    47,
-    35,
-    48,
-    49,
-    36,
-    50,
-    0,
-    51,
-    52,
-    53,
-];
-
-const ROW_NAMES: [u8; 103] = [
-    0,
-    0,
-    0,
-    0,
-    0,
-    0,
-    62,
-    63,
-    64,
-    65,
-    66,
-    88,
-    89,
-    0,
-    0,
-    0,
-    0,
-    0,
-    0,
-    0,
-    0,
-    3,
-    0,
-    0,
-    67,
-    68,
-    69,
-    70,
-    71,
-    72,
-    73,
-    74,
-    75,
-    76,
-    77,
-    78,
-    79,
-    80,
-    81,
-    82,
-    83,
-    84,
-    85,
-    86,
-    0,
-    90,
-    0,
-    91,
-    92,
-    93,
-    94,
-    95,
-    96,
-    0,
-    121,
-    122,
-    0,
-    0,
-    0,
-    123,
-    124,
-    125,
-    126,
-    127,
-    128,
-    129,
-    130,
-    131,
-    132,
-    0,
-    0,
-    0,
-    0,
-    0,
-    0,
-    0,
-    0,
-    0,
-    0,
-    0,
-    0,
-    0,
-    0,
-    0,
-    0,
-    0,
-    0,
-    0,
-    0,
-    0,
-    0,
-    0,
-    0,
-    0,
-    0,
-    0,
-    0,
-    0,
-    0,
-    87,
-    0,
-    0,
-    0,
-];
-
-// The row of that number.
-fn row_at(n: usize) -> Coded
-    requires { ⌜ n < 103 ⌝ }
-    ensures { λ r. ⌜ Row n r ⌝ }
-{
-    Coded {
-        kind: ROW_KINDS[n],
-        name: wide(ROW_NAMES[n]),
-    }
-}
-
-// The row of the letter b, among `count` rows from `start` on.
-fn lookup(start: usize, count: usize, b: u8) -> Found
-    requires { ⌜ start + count ≤ 103 ⌝ }
-    ensures { λ r. ⌜ Searched b start count r ⌝ }
-{
-    let end = start + count;
-    let i = place_of(&ROW_LETTERS[start..end], b);
-    if i < count {
-        return Found::At(start + i);
-    }
-    Found::Nothing
-}
-
-// The operator of a row that is ready.
-fn simple(kind: u8, name: usize) -> Operator
-    requires { ⌜ kind < 37 ⌝ }
-    ensures { λ r. ⌜ meaning kind name ≡ ret (Enums.operator fixed r) ⌝ }
-{
-    match kind {
-        0 => Operator::Record(About::Type, name),
-        1 => Operator::Record(About::Entity, name),
-        2 => Operator::Record(About::Context, name),
-        3 => Operator::Record(About::Protocol, name),
-        4 => Operator::Record(About::Conformance, name),
-        5 => Operator::Record(About::Anything, name),
-        6 => Operator::LazyWitness(name),
-        7 => Operator::FunctionType,
-        8 => Operator::Metatype,
-        9 => Operator::Leaf(Leaf::StandardNominal(NominalKind::Protocol, name)),
-        10 => Operator::ProtocolWitness,
-        11 => Operator::AssociatedType,
-        12 => Operator::AssociatedConformance,
-        13 => Operator::Initializer(true),
-        14 => Operator::Initializer(false),
-        15 => Operator::Deinitializer(true),
-        16 => Operator::Deinitializer(false),
-        17 => Operator::VariableInitializer,
-        18 => Operator::Leaf(Leaf::Async),
-        19 => Operator::Nominal(NominalKind::Class),
-        20 => Operator::Nominal(NominalKind::Struct),
-        21 => Operator::Nominal(NominalKind::Enum),
-        22 => Operator::Nominal(NominalKind::Protocol),
-        23 => Operator::Nominal(NominalKind::TypeAlias),
-        24 => Operator::Leaf(Leaf::Module(name)),
-        25 => Operator::Leaf(Leaf::EmptyList),
-        26 => Operator::Leaf(Leaf::FirstElementMarker),
-        27 => Operator::Leaf(Leaf::VariadicMarker),
-        28 => Operator::Leaf(Leaf::Throws),
-        29 => Operator::Tuple,
-        30 => Operator::Leaf(Leaf::GenericParam(Param { depth: 0, index: 0 })),
-        31 => Operator::InOut,
-        32 => Operator::ProtocolList,
-        33 => Operator::BoundGeneric,
-        34 => Operator::GenericSignature(1),
-        35 => Operator::PlainFunction,
-        _ => Operator::Static,
-    }
-}
-
-// Behind a letter of `Y`, `f`, `MX` or `Wv`.
-fn ready_row(c: Cursor, n: usize) -> OperatorRead
-    requires { ⌜ n < 13 ⌝ }
-    ensures { λ r. ⌜ ((t : Text.Text) → c .at ≤ length t → Operated (step-at n (drop (c .at) t)) t (c .at) r) ⌝ }
-{
-    let row = row_at(n);
-    let kind = row.kind;
-    let name = row.name;
-    OperatorRead::Read(simple(kind, name), c)
-}
-
-fn choose_ready(c: Cursor, start: usize, count: usize, b: u8) -> OperatorRead
-    requires { ⌜ start + count ≤ 13 ⌝ }
-    ensures { λ r. ⌜ ((t : Text.Text) → c .at ≤ length t → Operated (picked (pick b (take count (drop start row-table))) (drop (c .at) t)) t (c .at) r) ⌝ }
-{
-    match lookup(start, count, b) {
-        Found::At(n) => ready_row(c, n),
-        Found::Nothing => OperatorRead::Refused(Refusal::Spelling),
-    }
-}
-
-fn choose(text: &[u8], c: Cursor, start: usize, count: usize) -> OperatorRead
-    requires { ⌜ start + count ≤ 13 ⌝ }
-    ensures { λ r. ⌜ Operated (Op.choose-then (take count (drop start row-table)) (drop (c .at) (now (text .entry)))) (now (text .entry)) (c .at) r ⌝ }
-{
-    match text::next(text, c) {
-        Byte::Read(b, next) => choose_ready(next, start, count, b),
-        Byte::Refused(f) => OperatorRead::Refused(f),
-    }
-}
+// Operators that are letters alone
 
 // `XM` and any byte
 fn any_byte(text: &[u8], c: Cursor) -> OperatorRead
@@ -375,6 +41,143 @@ fn any_byte(text: &[u8], c: Cursor) -> OperatorRead
 {
     match text::next(text, c) {
         Byte::Read(_, next) => OperatorRead::Read(Operator::Metatype, next),
+        Byte::Refused(f) => OperatorRead::Refused(f),
+    }
+}
+
+// `X`
+fn special_type(text: &[u8], c: Cursor) -> OperatorRead
+    ensures { λ r. ⌜ Operated (Op.choose-then Op.special-types (drop (c .at) (now (text .entry)))) (now (text .entry)) (c .at) r ⌝ }
+{
+    match text::next(text, c) {
+        Byte::Read(b, next) => match b {
+            b'E' => OperatorRead::Read(Operator::FunctionType, next),
+            b'B' => OperatorRead::Read(Operator::FunctionType, next),
+            b'C' => OperatorRead::Read(Operator::FunctionType, next),
+            b'A' => OperatorRead::Read(Operator::FunctionType, next),
+            b'K' => OperatorRead::Read(Operator::FunctionType, next),
+            b'f' => OperatorRead::Read(Operator::FunctionType, next),
+            b'L' => OperatorRead::Read(Operator::FunctionType, next),
+            b'U' => OperatorRead::Read(Operator::FunctionType, next),
+            b'l' => OperatorRead::Read(Operator::Leaf(Leaf::StandardNominal(NominalKind::Protocol, 3)), next),
+            b'M' => any_byte(text, next),
+            b'p' => OperatorRead::Read(Operator::Metatype, next),
+            _ => OperatorRead::Refused(Refusal::Spelling),
+        },
+        Byte::Refused(f) => OperatorRead::Refused(f),
+    }
+}
+
+// `Y`
+fn async_type(text: &[u8], c: Cursor) -> OperatorRead
+    ensures { λ r. ⌜ Operated (Op.choose Op.async-types (drop (c .at) (now (text .entry)))) (now (text .entry)) (c .at) r ⌝ }
+{
+    match text::next(text, c) {
+        Byte::Read(b, next) => match b {
+            b'a' => OperatorRead::Read(Operator::Leaf(Leaf::Async), next),
+            _ => OperatorRead::Refused(Refusal::Spelling),
+        },
+        Byte::Refused(f) => OperatorRead::Refused(f),
+    }
+}
+
+// `f`
+fn function_entity(text: &[u8], c: Cursor) -> OperatorRead
+    ensures { λ r. ⌜ Operated (Op.choose Op.function-entities (drop (c .at) (now (text .entry)))) (now (text .entry)) (c .at) r ⌝ }
+{
+    match text::next(text, c) {
+        Byte::Read(b, next) => match b {
+            b'C' => OperatorRead::Read(Operator::Initializer(true), next),
+            b'c' => OperatorRead::Read(Operator::Initializer(false), next),
+            b'D' => OperatorRead::Read(Operator::Deinitializer(true), next),
+            b'd' => OperatorRead::Read(Operator::Deinitializer(false), next),
+            b'i' => OperatorRead::Read(Operator::VariableInitializer, next),
+            b'e' => OperatorRead::Read(Operator::Record(About::Context, 62), next),
+            b'E' => OperatorRead::Read(Operator::Record(About::Context, 63), next),
+            _ => OperatorRead::Refused(Refusal::Spelling),
+        },
+        Byte::Refused(f) => OperatorRead::Refused(f),
+    }
+}
+
+// `MX`
+fn context_descriptor(text: &[u8], c: Cursor) -> OperatorRead
+    ensures { λ r. ⌜ Operated (Op.choose Op.context-descriptors (drop (c .at) (now (text .entry)))) (now (text .entry)) (c .at) r ⌝ }
+{
+    match text::next(text, c) {
+        Byte::Read(b, next) => match b {
+            b'M' => OperatorRead::Read(Operator::Record(About::Context, 64), next),
+            b'E' => OperatorRead::Read(Operator::Record(About::Context, 65), next),
+            b'X' => OperatorRead::Read(Operator::Record(About::Context, 66), next),
+            _ => OperatorRead::Refused(Refusal::Spelling),
+        },
+        Byte::Refused(f) => OperatorRead::Refused(f),
+    }
+}
+
+// `M`
+fn metatype_record(text: &[u8], c: Cursor) -> OperatorRead
+    ensures { λ r. ⌜ Operated (Op.choose-then Op.metatype-records (drop (c .at) (now (text .entry)))) (now (text .entry)) (c .at) r ⌝ }
+{
+    match text::next(text, c) {
+        Byte::Read(b, next) => match b {
+            b'a' => OperatorRead::Read(Operator::Record(About::Type, 67), next),
+            b'f' => OperatorRead::Read(Operator::Record(About::Type, 68), next),
+            b'm' => OperatorRead::Read(Operator::Record(About::Type, 69), next),
+            b'n' => OperatorRead::Read(Operator::Record(About::Type, 70), next),
+            b'F' => OperatorRead::Read(Operator::Record(About::Type, 71), next),
+            b'B' => OperatorRead::Read(Operator::Record(About::Type, 72), next),
+            b'S' => OperatorRead::Read(Operator::Record(About::Type, 73), next),
+            b'A' => OperatorRead::Read(Operator::Record(About::Type, 74), next),
+            b'p' => OperatorRead::Read(Operator::Record(About::Protocol, 75), next),
+            b'c' => OperatorRead::Read(Operator::Record(About::Conformance, 76), next),
+            b'V' => OperatorRead::Read(Operator::Record(About::Entity, 77), next),
+            b'K' => OperatorRead::Read(Operator::Record(About::Anything, 78), next),
+            b'L' => OperatorRead::Read(Operator::Record(About::Type, 79), next),
+            b'i' => OperatorRead::Read(Operator::Record(About::Type, 80), next),
+            b'I' => OperatorRead::Read(Operator::Record(About::Type, 81), next),
+            b'l' => OperatorRead::Read(Operator::Record(About::Type, 82), next),
+            b'r' => OperatorRead::Read(Operator::Record(About::Type, 83), next),
+            b'P' => OperatorRead::Read(Operator::Record(About::Type, 84), next),
+            b'd' => OperatorRead::Read(Operator::Record(About::Type, 85), next),
+            b'R' => OperatorRead::Read(Operator::Record(About::Type, 86), next),
+            b'X' => context_descriptor(text, next),
+            _ => OperatorRead::Refused(Refusal::Spelling),
+        },
+        Byte::Refused(f) => OperatorRead::Refused(f),
+    }
+}
+
+// `Wv`
+fn field_offset(text: &[u8], c: Cursor) -> OperatorRead
+    ensures { λ r. ⌜ Operated (Op.choose Op.field-offsets (drop (c .at) (now (text .entry)))) (now (text .entry)) (c .at) r ⌝ }
+{
+    match text::next(text, c) {
+        Byte::Read(b, next) => match b {
+            b'd' => OperatorRead::Read(Operator::Record(About::Entity, 88), next),
+            b'i' => OperatorRead::Read(Operator::Record(About::Entity, 89), next),
+            _ => OperatorRead::Refused(Refusal::Spelling),
+        },
+        Byte::Refused(f) => OperatorRead::Refused(f),
+    }
+}
+
+// `W`
+fn witness(text: &[u8], c: Cursor) -> OperatorRead
+    ensures { λ r. ⌜ Operated (Op.choose-then Op.witnesses (drop (c .at) (now (text .entry)))) (now (text .entry)) (c .at) r ⌝ }
+{
+    match text::next(text, c) {
+        Byte::Read(b, next) => match b {
+            b'V' => OperatorRead::Read(Operator::Record(About::Type, 90), next),
+            b'v' => field_offset(text, next),
+            b'l' => OperatorRead::Read(Operator::LazyWitness(91), next),
+            b'L' => OperatorRead::Read(Operator::LazyWitness(92), next),
+            b'P' => OperatorRead::Read(Operator::Record(About::Conformance, 93), next),
+            b'p' => OperatorRead::Read(Operator::Record(About::Conformance, 94), next),
+            b'a' => OperatorRead::Read(Operator::Record(About::Conformance, 95), next),
+            b'S' => OperatorRead::Read(Operator::Record(About::Conformance, 96), next),
+            _ => OperatorRead::Refused(Refusal::Spelling),
+        },
         Byte::Refused(f) => OperatorRead::Refused(f),
     }
 }
@@ -390,43 +193,30 @@ fn suspend_resume(text: &[u8], c: Cursor) -> OperatorRead
     }
 }
 
-// Behind a letter of `X`, `M`, `W` or `T`.
-fn row(text: &[u8], c: Cursor, n: usize) -> OperatorRead
-    requires { ⌜ (c .at ≤ length (now text)) × (n < 69) ⌝ }
-    ensures { λ r. ⌜ Operated (step-at n (drop (c .at) (now (text .entry)))) (now (text .entry)) (c .at) r ⌝ }
-{
-    let row = row_at(n);
-    let kind = row.kind;
-    let name = row.name;
-    if kind < 37 {
-        return OperatorRead::Read(simple(kind, name), c);
-    }
-    match kind {
-        37 => any_byte(text, c),
-        // `MX`
-        38 => choose(text, c, 8, 3),
-        // `Wv`
-        39 => choose(text, c, 11, 2),
-        _ => suspend_resume(text, c),
-    }
-}
-
-fn choose_row(text: &[u8], c: Cursor, start: usize, count: usize, b: u8) -> OperatorRead
-    requires { ⌜ (c .at ≤ length (now text)) × (start + count ≤ 69) ⌝ }
-    ensures { λ r. ⌜ Operated (picked (pick b (take count (drop start row-table))) (drop (c .at) (now (text .entry)))) (now (text .entry)) (c .at) r ⌝ }
-{
-    match lookup(start, count, b) {
-        Found::At(n) => row(text, c, n),
-        Found::Nothing => OperatorRead::Refused(Refusal::Spelling),
-    }
-}
-
-fn choose_then(text: &[u8], c: Cursor, start: usize, count: usize) -> OperatorRead
-    requires { ⌜ start + count ≤ 69 ⌝ }
-    ensures { λ r. ⌜ Operated (Op.choose-then (take count (drop start row-table)) (drop (c .at) (now (text .entry)))) (now (text .entry)) (c .at) r ⌝ }
+// `T`
+fn thunk(text: &[u8], c: Cursor) -> OperatorRead
+    ensures { λ r. ⌜ Operated (Op.choose-then Op.thunks (drop (c .at) (now (text .entry)))) (now (text .entry)) (c .at) r ⌝ }
 {
     match text::next(text, c) {
-        Byte::Read(b, next) => choose_row(text, next, start, count, b),
+        Byte::Read(b, next) => match b {
+            b'W' => OperatorRead::Read(Operator::ProtocolWitness, next),
+            b'L' => OperatorRead::Read(Operator::Record(About::Protocol, 121), next),
+            b'S' => OperatorRead::Read(Operator::Record(About::Protocol, 122), next),
+            b'l' => OperatorRead::Read(Operator::AssociatedType, next),
+            b'n' => OperatorRead::Read(Operator::AssociatedConformance, next),
+            b'Y' => suspend_resume(text, next),
+            b'q' => OperatorRead::Read(Operator::Record(About::Entity, 123), next),
+            b'u' => OperatorRead::Read(Operator::Record(About::Entity, 124), next),
+            b'j' => OperatorRead::Read(Operator::Record(About::Entity, 125), next),
+            b'V' => OperatorRead::Read(Operator::Record(About::Entity, 126), next),
+            b'o' => OperatorRead::Read(Operator::Record(About::Entity, 127), next),
+            b'O' => OperatorRead::Read(Operator::Record(About::Entity, 128), next),
+            b'D' => OperatorRead::Read(Operator::Record(About::Entity, 129), next),
+            b'I' => OperatorRead::Read(Operator::Record(About::Entity, 130), next),
+            b'X' => OperatorRead::Read(Operator::Record(About::Entity, 131), next),
+            b'm' => OperatorRead::Read(Operator::Record(About::Entity, 132), next),
+            _ => OperatorRead::Refused(Refusal::Spelling),
+        },
         Byte::Refused(f) => OperatorRead::Refused(f),
     }
 }
@@ -496,11 +286,6 @@ fn archetype(text: &[u8], c: Cursor) -> OperatorRead
 }
 
 // `R`: requirements
-
-// The letters, and for each 3 times the constraint and what it is on: 0 is a parameter, 1 the stack, 2 a member; 12 is refused.
-const REQUIREMENT_LETTERS: [u8; 15] = *b"pQbBcsStlLmPCTM";
-
-const REQUIREMENT_KINDS: [u8; 15] = [2, 1, 3, 4, 5, 6, 7, 8, 9, 10, 11, 12, 12, 12, 12];
 
 fn on_param(text: &[u8], c: Cursor) -> SubjectRead
     requires { ⌜ c .at ≤ length (now text) ⌝ }
@@ -577,52 +362,54 @@ fn requiring_layout(text: &[u8], c: Cursor, target: u8) -> OperatorRead
     }
 }
 
-fn requirement_row(text: &[u8], c: Cursor, kind: u8) -> OperatorRead
-    requires { ⌜ c .at ≤ length (now text) ⌝ }
-    ensures { λ r. ⌜ Operated (requirement-kind kind (drop (c .at) (now (text .entry)))) (now (text .entry)) (c .at) r ⌝ }
-{
-    let target = kind % 3;
-    let constraint = kind / 3;
-    match constraint {
-        0 => requiring(text, c, target, Constraint::Conforms),
-        1 => requiring(text, c, target, Constraint::Superclass),
-        2 => requiring(text, c, target, Constraint::SameType),
-        3 => requiring_layout(text, c, target),
-        _ => OperatorRead::Refused(Refusal::Spelling),
-    }
-}
-
 fn requirement(text: &[u8], c: Cursor) -> OperatorRead
     requires { ⌜ c .at ≤ length (now text) ⌝ }
     ensures { λ r. ⌜ Operated (Op.requirement-letters (drop (c .at) (now (text .entry)))) (now (text .entry)) (c .at) r ⌝ }
 {
     let at = c.at;
     if at < text.len() {
-        let i = place_of(&REQUIREMENT_LETTERS, text[at]);
-        if i < 15 {
-            return requirement_row(text, Cursor { at: at + 1 }, REQUIREMENT_KINDS[i]);
-        }
-        return requiring(text, c, 0, Constraint::Conforms);
+        let next = Cursor { at: at + 1 };
+        return match text[at] {
+            b'p' => requiring(text, next, 2, Constraint::Conforms),
+            b'Q' => requiring(text, next, 1, Constraint::Conforms),
+            b'b' => requiring(text, next, 0, Constraint::Superclass),
+            b'B' => requiring(text, next, 1, Constraint::Superclass),
+            b'c' => requiring(text, next, 2, Constraint::Superclass),
+            b's' => requiring(text, next, 0, Constraint::SameType),
+            b'S' => requiring(text, next, 1, Constraint::SameType),
+            b't' => requiring(text, next, 2, Constraint::SameType),
+            b'l' => requiring_layout(text, next, 0),
+            b'L' => requiring_layout(text, next, 1),
+            b'm' => requiring_layout(text, next, 2),
+            b'P' => OperatorRead::Refused(Refusal::Spelling),
+            b'C' => OperatorRead::Refused(Refusal::Spelling),
+            b'T' => OperatorRead::Refused(Refusal::Spelling),
+            b'M' => OperatorRead::Refused(Refusal::Spelling),
+            _ => requiring(text, c, 0, Constraint::Conforms),
+        };
     }
     OperatorRead::Refused(Refusal::Spelling)
 }
 
 // `v`: the letter is judged late
 
-// The letters: the variable itself, and then the accessors; the name of the first is 52.
-const ACCESSOR_LETTERS: [u8; 11] = *b"pgsMrmwWGal";
-
 fn accessor_of(b: u8) -> Accessor
     ensures { λ r. ⌜ Enums.operator fixed (Operator.Variable r) ≡ accessor-late b ⌝ }
 {
-    let i = place_of(&ACCESSOR_LETTERS, b);
-    if i == 0 {
-        return Accessor::Itself;
+    match b {
+        b'p' => Accessor::Itself,
+        b'g' => Accessor::Named(52),
+        b's' => Accessor::Named(53),
+        b'M' => Accessor::Named(54),
+        b'r' => Accessor::Named(55),
+        b'm' => Accessor::Named(56),
+        b'w' => Accessor::Named(57),
+        b'W' => Accessor::Named(58),
+        b'G' => Accessor::Named(59),
+        b'a' => Accessor::Named(60),
+        b'l' => Accessor::Named(61),
+        _ => Accessor::Broken,
     }
-    if i < 11 {
-        return Accessor::Named(51 + i);
-    }
-    Accessor::Broken
 }
 
 fn variable(text: &[u8], c: Cursor) -> OperatorRead
@@ -641,45 +428,72 @@ fn variable(text: &[u8], c: Cursor) -> OperatorRead
 
 // `w`: value witnesses
 
-// The first letters; where the second letters of each start, and how many they are; all second letters. The name of the first is 97.
-const WITNESS_FIRST: [u8; 12] = *b"actdxXCTpues";
-
-const WITNESS_START: [u8; 12] = [0, 1, 3, 6, 7, 10, 12, 15, 18, 19, 22, 23];
-
-const WITNESS_COUNT: [u8; 12] = [1, 2, 3, 1, 3, 2, 3, 3, 1, 3, 1, 1];
-
-const WITNESS_SECOND: [u8; 24] = *b"lapakTexsgXxPpckKtrgpitt";
-
-fn witness_kind(c: Cursor, start: usize, count: usize, b: u8) -> OperatorRead
-    requires { ⌜ start + count ≤ 24 ⌝ }
-    ensures { λ r. ⌜ ((t : Text.Text) → c .at ≤ length t → Operated (witness-name (take count (drop start witness-names)) b (drop (c .at) t)) t (c .at) r) ⌝ }
+// The name of a witness by both letters; 0 is none, for the names of witnesses begin at 97.
+fn witness_name(a: u8, b: u8) -> usize
+    ensures { λ r. ⌜ name-if-any r ≡ witness-letters a b ⌝ }
 {
-    let end = start + count;
-    let i = place_of(&WITNESS_SECOND[start..end], b);
-    if i < count {
-        return OperatorRead::Read(Operator::ValueWitness(97 + start + i), c);
-    }
-    OperatorRead::Refused(Refusal::Spelling)
-}
-
-fn witness_letters(c: Cursor, a: u8, b: u8) -> OperatorRead
-    ensures { λ r. ⌜ ((t : Text.Text) → c .at ≤ length t → Operated (witness-pair a b (drop (c .at) t)) t (c .at) r) ⌝ }
-{
-    let i = place_of(&WITNESS_FIRST, a);
-    if i < 12 {
-        let start = wide(WITNESS_START[i]);
-        let count = wide(WITNESS_COUNT[i]);
-        return witness_kind(c, start, count, b);
-    }
-    OperatorRead::Refused(Refusal::Spelling)
-}
-
-fn second_witness(text: &[u8], c: Cursor, a: u8) -> OperatorRead
-    ensures { λ r. ⌜ Operated (witness-second a (drop (c .at) (now (text .entry)))) (now (text .entry)) (c .at) r ⌝ }
-{
-    match text::next(text, c) {
-        Byte::Read(b, next) => witness_letters(next, a, b),
-        Byte::Refused(f) => OperatorRead::Refused(f),
+    match a {
+        b'a' => match b {
+            b'l' => 97,
+            _ => 0,
+        },
+        b'c' => match b {
+            b'a' => 98,
+            b'p' => 99,
+            _ => 0,
+        },
+        b't' => match b {
+            b'a' => 100,
+            b'k' => 101,
+            b'T' => 102,
+            _ => 0,
+        },
+        b'd' => match b {
+            b'e' => 103,
+            _ => 0,
+        },
+        b'x' => match b {
+            b'x' => 104,
+            b's' => 105,
+            b'g' => 106,
+            _ => 0,
+        },
+        b'X' => match b {
+            b'X' => 107,
+            b'x' => 108,
+            _ => 0,
+        },
+        b'C' => match b {
+            b'P' => 109,
+            b'p' => 110,
+            b'c' => 111,
+            _ => 0,
+        },
+        b'T' => match b {
+            b'k' => 112,
+            b'K' => 113,
+            b't' => 114,
+            _ => 0,
+        },
+        b'p' => match b {
+            b'r' => 115,
+            _ => 0,
+        },
+        b'u' => match b {
+            b'g' => 116,
+            b'p' => 117,
+            b'i' => 118,
+            _ => 0,
+        },
+        b'e' => match b {
+            b't' => 119,
+            _ => 0,
+        },
+        b's' => match b {
+            b't' => 120,
+            _ => 0,
+        },
+        _ => 0,
     }
 }
 
@@ -687,46 +501,21 @@ fn value_witness(text: &[u8], c: Cursor) -> OperatorRead
     ensures { λ r. ⌜ Operated (Op.value-witness-letters (drop (c .at) (now (text .entry)))) (now (text .entry)) (c .at) r ⌝ }
 {
     match text::next(text, c) {
-        Byte::Read(a, next) => second_witness(text, next, a),
+        Byte::Read(a, second) => match text::next(text, second) {
+            Byte::Read(b, next) => {
+                let name = witness_name(a, b);
+                if name == 0 {
+                    return OperatorRead::Refused(Refusal::Spelling);
+                }
+                OperatorRead::Read(Operator::ValueWitness(name), next)
+            }
+            Byte::Refused(f) => OperatorRead::Refused(f),
+        },
         Byte::Refused(f) => OperatorRead::Refused(f),
     }
 }
 
 // An operator
-
-// Behind the first letter, but `A`.
-fn first_row(text: &[u8], c: Cursor, n: usize) -> OperatorRead
-    requires { ⌜ (c .at ≤ length (now text)) × ((69 ≤ n) × (n < 103)) ⌝ }
-    ensures { λ r. ⌜ Operated (step-at n (drop (c .at) (now (text .entry)))) (now (text .entry)) (c .at) r ⌝ }
-{
-    let row = row_at(n);
-    let kind = row.kind;
-    let name = row.name;
-    if kind < 37 {
-        return OperatorRead::Read(simple(kind, name), c);
-    }
-    match kind {
-        41 => standard(text, c),
-        // `X`
-        42 => choose_then(text, c, 13, 11),
-        // `Y`
-        43 => choose(text, c, 0, 1),
-        44 => generic_param(text, c),
-        45 => archetype(text, c),
-        46 => requirement(text, c),
-        47 => generic_signature(text, c),
-        48 => variable(text, c),
-        // `f`
-        49 => choose(text, c, 1, 7),
-        // `M`
-        50 => choose_then(text, c, 24, 21),
-        // `W`
-        51 => choose_then(text, c, 45, 8),
-        52 => value_witness(text, c),
-        // `T`
-        _ => choose_then(text, c, 53, 16),
-    }
-}
 
 // The operator that begins at the cursor.
 pub fn operator(text: &[u8], c: Cursor) -> OperatorRead
@@ -736,11 +525,42 @@ pub fn operator(text: &[u8], c: Cursor) -> OperatorRead
     let at = c.at;
     let b = text[at];
     let next = Cursor { at: at + 1 };
-    if b == b'A' {
-        return OperatorRead::Substitutions(next);
-    }
-    match lookup(69, 34, b) {
-        Found::At(n) => first_row(text, next, n),
-        Found::Nothing => OperatorRead::Refused(Refusal::Spelling),
+    match b {
+        b'A' => OperatorRead::Substitutions(next),
+        b'C' => OperatorRead::Read(Operator::Nominal(NominalKind::Class), next),
+        b'V' => OperatorRead::Read(Operator::Nominal(NominalKind::Struct), next),
+        b'O' => OperatorRead::Read(Operator::Nominal(NominalKind::Enum), next),
+        b'P' => OperatorRead::Read(Operator::Nominal(NominalKind::Protocol), next),
+        b'a' => OperatorRead::Read(Operator::Nominal(NominalKind::TypeAlias), next),
+        b'S' => standard(text, next),
+        b's' => OperatorRead::Read(Operator::Leaf(Leaf::Module(0)), next),
+        b'y' => OperatorRead::Read(Operator::Leaf(Leaf::EmptyList), next),
+        b'_' => OperatorRead::Read(Operator::Leaf(Leaf::FirstElementMarker), next),
+        b'd' => OperatorRead::Read(Operator::Leaf(Leaf::VariadicMarker), next),
+        b'K' => OperatorRead::Read(Operator::Leaf(Leaf::Throws), next),
+        b't' => OperatorRead::Read(Operator::Tuple, next),
+        b'c' => OperatorRead::Read(Operator::FunctionType, next),
+        b'X' => special_type(text, next),
+        b'Y' => async_type(text, next),
+        b'x' => OperatorRead::Read(Operator::Leaf(Leaf::GenericParam(Param { depth: 0, index: 0 })), next),
+        b'q' => generic_param(text, next),
+        b'Q' => archetype(text, next),
+        b'z' => OperatorRead::Read(Operator::InOut, next),
+        b'm' => OperatorRead::Read(Operator::Metatype, next),
+        b'p' => OperatorRead::Read(Operator::ProtocolList, next),
+        b'G' => OperatorRead::Read(Operator::BoundGeneric, next),
+        b'R' => requirement(text, next),
+        b'l' => OperatorRead::Read(Operator::GenericSignature(1), next),
+        b'r' => generic_signature(text, next),
+        b'F' => OperatorRead::Read(Operator::PlainFunction, next),
+        b'v' => variable(text, next),
+        b'f' => function_entity(text, next),
+        b'Z' => OperatorRead::Read(Operator::Static, next),
+        b'M' => metatype_record(text, next),
+        b'N' => OperatorRead::Read(Operator::Record(About::Type, 87), next),
+        b'W' => witness(text, next),
+        b'w' => value_witness(text, next),
+        b'T' => thunk(text, next),
+        _ => OperatorRead::Refused(Refusal::Spelling),
     }
 }
