@@ -1,85 +1,68 @@
--- Where each fixed name stands among the bytes of all. Assumes nothing.
-use mathlib.Core.Path.{_≡_, refl, sym, ap}
+-- Each name stands at its place among the words. Assumes nothing.
+use mathlib.Core.Path.{_≡_, refl}
+use mathlib.Core.Bool.{Bool, true, false, _&&_}
 use mathlib.Core.List.{List, [], _∷_, _++_}
-use Prim.Native.Nat.{ℕ, zero, suc, _+_, _≤_, _<_}
+use Prim.Native.Nat.{ℕ, zero, suc, _+_, _*_, _/_, _%_, _≤_, _<_}
 use Prim.Native.String.{String}
 use native.Mathlib.Omega.{arith}
-use native.Mathlib.Nat.{le-of-suc-le-suc, not-suc-le-zero}
-use lib.ListN.{List·getD-eq-default, length, getD, take, drop, length-append}
-use lib.Seq.{take-append-seam, drop-append-add}
-use Rattle.definition.specs.Base.{bytes}
+use lib.Dec.{T, leb, leb→le}
+use lib.ListN.{List·getD-eq-default, List·getD-append, getD, drop}
+use lib.Seq.{getD-append-add}
+use Rattle.definition.specs.Base.{bytes, same}
 use Rattle.definition.specs.Base.{opened as opened₀}
-use Rattle.fixed_names.specs.Fixed.{fixed-names, fixed, joined, names, count, size}
+use Rattle.definition.proofs.SameText.{both, same→≡}
+use Rattle.output.specs.Sink.{low-bytes}
+use Rattle.fixed_names.specs.Fixed.{fixed-names, fixed, texts, numbered}
+use Rattle.fixed_names.specs.Words.{words, places, spelt, count, Named}
 
--- where each name starts, the first at p, and how long each is
-unfoldable pub starts : ℕ → List String → List ℕ
-starts p [] = []
-starts p (s ∷ ss) = p ∷ starts (p + length (bytes s)) ss
+-- what the number p says of a name's place is right
+abbrev Stands : ℕ → String → Type 0
+Stands p s = (spelt (p % 64) (drop (p / 64) words) ≡ bytes s) × (8 * (p / 64) + p % 64 ≤ 8 * count)
 
-unfoldable pub lengths : List String → List ℕ
-lengths [] = []
-lengths (s ∷ ss) = length (bytes s) ∷ lengths ss
+abbrev stands : ℕ → String → Bool
+stands p s = same (spelt (p % 64) (drop (p / 64) words)) (bytes s) && leb (8 * (p / 64) + p % 64) (8 * count)
 
-length-at : (ss : List String) (n : ℕ) → n < length ss → getD (lengths ss) n 0 ≡ length (bytes (getD ss n ""))
-unfolding lengths
-length-at [] n h = absurd (not-suc-le-zero h)
-length-at (s ∷ ss) zero h = refl
-length-at (s ∷ ss) (suc n) h = length-at ss n (le-of-suc-le-suc h)
+-- a test of all names
+unfoldable right : List ℕ → List String → Bool
+right [] [] = true
+right [] (s ∷ ss) = false
+right (p ∷ ps) [] = false
+right (p ∷ ps) (s ∷ ss) = stands p s && right ps ss
 
-start-at : (ss : List String) (p n : ℕ) → n < length ss → getD (starts p ss) n 0 ≡ p + length (joined (take n ss))
-unfolding starts joined
-start-at [] p n h = absurd (not-suc-le-zero h)
-start-at (s ∷ ss) p zero h = omega arith
-start-at (s ∷ ss) p (suc n) h =
-    let e = start-at ss (p + length (bytes s)) n (le-of-suc-le-suc h) in
-    omega (arith, length-append (bytes s) (joined (take n ss)))
+-- and what it says of each; past the last there is nothing
+nothing : Stands 0 ""
+unfolding opened₀ words spelt low-bytes
+nothing = (refl, omega arith)
 
-from-start : (ss : List String) (n : ℕ) → n < length ss → drop (length (joined (take n ss))) (joined ss) ≡ bytes (getD ss n "") ++ joined (drop (suc n) ss)
-unfolding joined
-from-start [] n h = absurd (not-suc-le-zero h)
-from-start (s ∷ ss) zero h = refl
-from-start (s ∷ ss) (suc n) h =
-    rw (length-append (bytes s) (joined (take n ss)), drop-append-add (bytes s) (joined ss) (length (joined (take n ss)))) (from-start ss n (le-of-suc-le-suc h))
+right-at : (ps : List ℕ) (ss : List String) (n : ℕ) → T (right ps ss) → Stands (getD ps n 0) (getD ss n "")
+unfolding right
+right-at [] [] n h = nothing
+right-at [] (s ∷ ss) n h = absurd h
+right-at (p ∷ ps) [] n h = absurd h
+right-at (p ∷ ps) (s ∷ ss) zero h =
+    let a = both (stands p s) (right ps ss) h .0 in
+    let b = both (same (spelt (p % 64) (drop (p / 64) words)) (bytes s)) (leb (8 * (p / 64) + p % 64) (8 * count)) a in
+    (same→≡ (spelt (p % 64) (drop (p / 64) words)) (bytes s) (b .0), leb→le _ _ (b .1))
+right-at (p ∷ ps) (s ∷ ss) (suc n) h = right-at ps ss n (both (stands p s) (right ps ss) h .1)
 
-before-end : (ss : List String) (n : ℕ) → n < length ss → length (joined (take n ss)) + length (bytes (getD ss n "")) ≤ length (joined ss)
-unfolding joined
-before-end [] n h = absurd (not-suc-le-zero h)
-before-end (s ∷ ss) zero h = omega (arith, length-append (bytes s) (joined ss))
-before-end (s ∷ ss) (suc n) h =
-    let e = before-end ss n (le-of-suc-le-suc h) in
-    omega (arith, length-append (bytes s) (joined ss), length-append (bytes s) (joined (take n ss)))
+all-right : T (right places (fixed-names ++ texts))
+unfolding opened₀ right words places spelt low-bytes fixed-names texts
+all-right = tt
 
-module _ (ss : List String) (n : ℕ) (h : n < length ss) where
-  pub part : take (getD (lengths ss) n 0) (drop (getD (starts 0 ss) n 0) (joined ss)) ≡ bytes (getD ss n "")
-  part =
-      let z : 0 + length (joined (take n ss)) ≡ length (joined (take n ss)) = omega arith in
-      rw (length-at ss n h, start-at ss 0 n h, z, from-start ss n h) (take-append-seam (bytes (getD ss n "")) (joined (drop (suc n) ss)))
+pub named : (n : ℕ) {p : ℕ} → p ≡ getD places n 0 → Named n (record { first = p / 64; len = p % 64 })
+unfolding numbered
+named n {p} e =
+    let h : Stands p (getD (fixed-names ++ texts) n "") = rw e (right-at places (fixed-names ++ texts) n all-right) in
+    record { is = h .0; inside = h .1 }
 
-  pub inside : getD (starts 0 ss) n 0 + getD (lengths ss) n 0 ≤ length (joined ss)
-  inside = let e = before-end ss n h in omega (arith, length-at ss n h, start-at ss 0 n h)
+-- THE TWO PARTS OF THE ROW
+pub numbered-fixed : (n : ℕ) → n < 134 → numbered n ≡ fixed n
+unfolding numbered fixed fixed-names
+numbered-fixed n h = List·getD-append fixed-names texts "" n h
 
--- of the fixed names
-pub names-size : length names ≡ size
-unfolding opened₀ names joined fixed-names
-names-size = refl
-
-module _ (n : ℕ) (h : n < count) where
-  counted : n < length fixed-names
-  unfolding fixed-names
-  counted = h
-
-  pub named : take (getD (lengths fixed-names) n 0) (drop (getD (starts 0 fixed-names) n 0) names) ≡ bytes (fixed n)
-  unfolding names fixed
-  named = part fixed-names n counted
-
-  pub named-inside : getD (starts 0 fixed-names) n 0 + getD (lengths fixed-names) n 0 ≤ size
-  unfolding names
-  named-inside = let e = inside fixed-names n counted in omega (arith, names-size)
-
--- past the last name
-pub unnamed : (n : ℕ) → count ≤ n → [] ≡ bytes (fixed n)
-unfolding opened₀ fixed fixed-names
-unnamed n h = ap bytes (sym (List·getD-eq-default fixed-names "" h))
+pub numbered-text : (n : ℕ) → numbered (134 + n) ≡ getD texts n ""
+unfolding numbered fixed-names
+numbered-text n = getD-append-add fixed-names texts n ""
 
 -- the names that operators of the machine use of themselves, by number
 pub fixed-swift : fixed 0 ≡ "Swift"

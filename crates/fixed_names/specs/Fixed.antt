@@ -1,13 +1,10 @@
--- The fixed names, and the place of each among their bytes. Assumes nothing.
-use mathlib.Core.Path.{_≡_}
+-- The fixed names and the texts of the printer, each by its number. Assumes nothing.
 use mathlib.Core.List.{List, [], _∷_, _++_}
-use Prim.Native.Nat.{ℕ, _+_, _≤_}
+use Prim.Native.Nat.{ℕ}
 use Prim.Native.String.{String}
-use lib.ListN.{length, getD, take, drop}
-use Rattle.definition.specs.Base.{Name, bytes}
-use Rattle.fixed_names.specs.declared.Part.{Part}
+use lib.ListN.{getD}
 
--- in the order of their numbers
+-- the texts that operators bring by themselves, in the order of their numbers
 unfoldable pub fixed-names : List String
 fixed-names =
     -- 0: modules and a protocol
@@ -157,26 +154,51 @@ fixed-names =
     -- 133: of an associated type
     "associated type descriptor for " ∷ []
 
-abbrev pub count : ℕ
-count = 134
-
 -- the name of that number; nothing past the last name
 unfoldable pub fixed : ℕ → String
 fixed n = getD fixed-names n ""
 
-unfoldable pub joined : List String → Name
-joined [] = []
-joined (s ∷ ss) = bytes s ++ joined ss
+-- the texts that the printer puts by itself, in the order of their numbers
+unfoldable pub texts : List String
+texts =
+    "." ∷
+    ": " ∷
+    " : " ∷
+    " == " ∷
+    ", " ∷
+    " & " ∷
+    "(" ∷
+    ")" ∷
+    "<" ∷
+    ">" ∷
+    "[" ∷
+    "]" ∷
+    "?" ∷
+    " where " ∷
+    ".Type" ∷
+    "inout " ∷
+    "variable initialization expression of " ∷
+    "static " ∷
+    " in " ∷
+    "protocol witness for " ∷
+    " in conformance " ∷
+    " value witness for " ∷
+    " and conformance " ∷
+    "associated conformance descriptor for " ∷
+    "()" ∷
+    "Any" ∷
+    " -> " ∷
+    " async" ∷
+    " throws" ∷
+    "__allocating_init" ∷
+    "init" ∷
+    "__deallocating_deinit" ∷
+    "deinit" ∷
+    "_" ∷
+    ") suspend resume partial function for " ∷
+    " with unmangled suffix \"" ∷
+    "\"" ∷ []
 
--- the bytes of all names, one behind the other
-unfoldable pub names : Name
-names = joined fixed-names
-
-abbrev pub size : ℕ
-size = 2716
-
--- the part p of the names is the name of the number n
-pub record Named (n : ℕ) (p : Part) : Type 0 where
-  pub is : take (p .len) (drop (p .start) names) ≡ bytes (fixed n)
-  pub inside : p .start + p .len ≤ size
-  pub all : length names ≡ size
+-- both in one row: the texts' numbers go on from the last name's
+unfoldable pub numbered : ℕ → String
+numbered n = getD (fixed-names ++ texts) n ""

@@ -8,12 +8,9 @@ use native.Mathlib.Numerals.{add-one}
 use lib.ListN.{length, getD, take, drop}
 use Rattle.definition.specs.Base.{Name, bytes, decimal}
 use Rattle.definition.specs.Operators.{suspend-resume-text}
-use Rattle.definition.specs.Base.{opened as opened₀}
-use Rattle.fixed_names.specs.Fixed.{joined}
-use Rattle.fixed_names.proofs.FixedNames.{starts, lengths, part, inside}
 use Rattle.definition.specs.Print.{join, generic-param-name, param-names, effects}
 use Rattle.output.specs.Sink.{Room, Wrote, Rest, rest-start, rest-then, rest-is, rest-end, rest-past}
-use Rattle.naming.specs.Texts.{texts, text-of, all-texts, size, sep-before}
+use Rattle.naming.specs.Texts.{texts, text-of, sep-before}
 
 -- each text with the text of the number n before it
 unfoldable pub led : ℕ → List Name → Name
@@ -66,29 +63,6 @@ names-step i n h =
 pub names-done : (i n : ℕ) → n ≤ i → param-names (n - i) i ≡ []
 unfolding param-names
 names-done i n h = let e : n - i ≡ 0 = omega arith in rw e
-
--- THE TABLE OF TEXTS
-texts-size : length all-texts ≡ size
-unfolding opened₀ all-texts joined texts
-texts-size = refl
-
-module _ (n : ℕ) (h : n < 37) where
-  counted : n < length texts
-  unfolding texts
-  counted = h
-
-  pub stands : take (getD (lengths texts) n 0) (drop (getD (starts 0 texts) n 0) all-texts) ≡ text-of n
-  unfolding all-texts text-of
-  stands = part texts n counted
-
-  pub stands-inside : getD (starts 0 texts) n 0 + getD (lengths texts) n 0 ≤ size
-  unfolding all-texts
-  stands-inside = let e = inside texts n counted in omega (arith, texts-size)
-
-pub same-part : {name : Name} (all : Name) (start len : ℕ) → take len (drop start all) ≡ name → take (start + len - start) (drop start all) ≡ name
-same-part all start len e =
-    let z : start + len - start ≡ len = omega arith in
-    ap (λ (k : ℕ). take k (drop start all)) z ∙ e
 
 -- EFFECTS
 module _ (throws is-async : Bool) where

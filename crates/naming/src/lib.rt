@@ -1,124 +1,63 @@
 // The leaves of the printer: fixed texts, numbers, the names of generic parameters, and names by their numbers.
 ghost use mathlib.Core.Path.{_≡_};
-ghost use Prim.Native.Nat.{_+_, _*_, _<_};
+ghost use Prim.Native.Nat.{_+_, _*_, _≤_, _<_};
+ghost use lib.ListN.{length, drop};
+ghost use lib.Seq.{sets};
 ghost use Rattle.definition.specs.Base.{Name, bytes, same};
 ghost use Rattle.definition.specs.Operators.{suspend-resume-text};
 ghost use Rattle.definition.specs.Print.{join, param-names, effects};
-ghost use Rattle.fixed_names.specs.Fixed.{fixed};
+ghost use Rattle.fixed_names.specs.Fixed.{fixed, numbered};
+ghost use Rattle.fixed_names.specs.Words.{words, count, spelt};
 ghost use Rattle.output.specs.Sink.{Room, Wrote};
 ghost use Rattle.records.specs.Holds.{Named};
-ghost use Rattle.naming.specs.Texts.{text-of, Stands, sep-before};
+ghost use Rattle.naming.specs.Texts.{text-of, sep-before};
 ghost use Rattle.naming.specs.Naming.{naming, Known, Puts, Some, Alone};
-use fixed_names::NAMES;
 use fixed_names::fixed_name;
+use fixed_names::word;
 use numerals::generic_param_name;
 use numerals::put_decimal;
-use output::put_part;
+use output::store_low;
+use output::store_word;
 use spelling::name_is;
 use spelling::put_name;
 use words::Words;
 
-// All texts that the printer puts by itself, one behind the other: 37 of them. Their numbers are in specs/Texts.antt.
-const TEXTS: [u8; 334] =
-    *b".:  :  == ,  & ()<>[]? where .Typeinout variable initialization expression of static  in protocol witness for  in conformance  value witness for  and conformance associated conformance descriptor for ()Any ->  async throws__allocating_initinit__deallocating_deinitdeinit_) suspend resume partial function for  with unmangled suffix \"\"";
-
-// Where each text starts.
-const START: [usize; 37] = [
-    0,
-    1,
-    3,
-    6,
-    10,
-    12,
-    15,
-    16,
-    17,
-    18,
-    19,
-    20,
-    21,
-    22,
-    29,
-    34,
-    40,
-    78,
-    85,
-    89,
-    110,
-    126,
-    145,
-    162,
-    200,
-    202,
-    205,
-    209,
-    215,
-    222,
-    239,
-    243,
-    264,
-    270,
-    271,
-    309,
-    333,
-];
-
-// How long each text is.
-const LENGTH: [usize; 37] = [
-    1,
-    2,
-    3,
-    4,
-    2,
-    3,
-    1,
-    1,
-    1,
-    1,
-    1,
-    1,
-    1,
-    7,
-    5,
-    6,
-    38,
-    7,
-    4,
-    21,
-    16,
-    19,
-    17,
-    38,
-    2,
-    3,
-    4,
-    6,
-    7,
-    17,
-    4,
-    21,
-    6,
-    1,
-    38,
-    24,
-    1,
-];
-
-// A part of the texts' bytes.
-struct Span {
-    start: usize,
-    len: usize,
+// Stores the first len bytes of the words from first on.
+fn store_words(out: &mut [u8], at: usize, first: usize, len: usize)
+    requires { ⌜ at + len ≤ length (now out) ⌝ }
+    requires { ⌜ 8 * first + len ≤ 8 * count ⌝ }
+    ensures { λ _. ⌜ now (out .exit) ≡ sets (now (out .entry)) at (spelt len (drop first words)) ⌝ }
+{
+    let mut place = at;
+    let mut i = first;
+    let mut left = len;
+    while 8 <= left {
+        store_word(out, place, word(i));
+        place += 8;
+        i += 1;
+        left -= 8;
+    }
+    store_low(out, place, left, word(i));
 }
 
-// Where the text of that number stands.
-fn find_text(n: usize) -> Span
-    requires { ⌜ n < 37 ⌝ }
-    ensures { λ r. ⌜ Stands n r ⌝ }
+// Appends the name or text of that number in the one row of both. Where it does not end within the slice, none of its words is looked at.
+fn put_numbered(out: &mut [u8], at: usize, room: usize, n: usize) -> usize
+    requires { ⌜ Room room (now out) at ⌝ }
+    ensures { λ r. ⌜ Wrote room (now (out .entry)) (now (out .exit)) at (bytes (numbered n)) r ⌝ }
 {
-    Span {
-        start: START[n],
-        len: LENGTH[n],
+    let s = fixed_name(n);
+    if room < at {
+        return at;
     }
+    if room - at < s.len {
+        return room + 1;
+    }
+    let end = at + s.len;
+    if end <= out.len() {
+        store_words(out, at, s.first, s.len);
+        return end;
+    }
+    end
 }
 
 // Appends the text of that number.
@@ -127,10 +66,7 @@ pub fn put_text(out: &mut [u8], at: usize, room: usize, n: usize) -> usize
     requires { ⌜ n < 37 ⌝ }
     ensures { λ r. ⌜ Wrote room (now (out .entry)) (now (out .exit)) at (text-of n) r ⌝ }
 {
-    let s = find_text(n);
-    let from = s.start;
-    let to = from + s.len;
-    put_part(out, at, room, &TEXTS, from, to)
+    put_numbered(out, at, room, 134 + n)
 }
 
 // Appends the text of that number before each element but the first.
@@ -202,10 +138,10 @@ pub fn put_fixed(out: &mut [u8], at: usize, room: usize, n: usize) -> usize
     requires { ⌜ Room room (now out) at ⌝ }
     ensures { λ r. ⌜ Wrote room (now (out .entry)) (now (out .exit)) at (bytes (fixed n)) r ⌝ }
 {
-    let s = fixed_name(n);
-    let from = s.start;
-    let to = from + s.len;
-    put_part(out, at, room, &NAMES, from, to)
+    if n < 134 {
+        return put_numbered(out, at, room, n);
+    }
+    at
 }
 
 // Appends the name that the number k stands for: the identifier at that offset of the text, or from 65,536 on a fixed name.

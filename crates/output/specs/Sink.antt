@@ -2,11 +2,12 @@
 -- One function measures and writes: with an empty slice and the room that is at hand it only counts; with a slice and its own length as room it writes.
 use mathlib.Core.Path.{_≡_, refl, sym, ap, subst, _∙_}
 use mathlib.Core.List.{List, [], _∷_, _++_, append-assoc, append-nil}
-use Prim.Native.Nat.{ℕ, suc, _+_, _-_, _≤_, _<_, min, _^_}
+use Prim.Native.Nat.{ℕ, zero, suc, _+_, _-_, _/_, _%_, _≤_, _<_, min, _^_}
 use native.Mathlib.Omega.{arith}
+use native.Mathlib.Nat.{div-div-eq-div-mul}
 use native.Mathlib.Numerals.{add-one}
 use lib.ListN.{length, take, drop, set, length-append, length-take, length-set, take-append-drop}
-use lib.Seq.{take-at, drop-at, drop-drop, set-split, append-snoc}
+use lib.Seq.{take-at, drop-at, drop-drop, set-split, append-snoc, sets, sets-eq, length-sets}
 
 -- the bytes from one place to another
 abbrev pub part : List ℕ → ℕ → ℕ → List ℕ
@@ -115,3 +116,48 @@ module _ {room at at₀ : ℕ} {o₀ o whole : List ℕ} where
 
   pub rest-past : {s : List ℕ} → room < at → Rest room o₀ at₀ whole o at s → Wrote room o₀ o at₀ whole at
   rest-past {s} k h = h .ends _ _ (wrote-stays s (h .next) k)
+
+-- THE BYTES OF A WORD
+-- the n low bytes of a number, the least first
+unfoldable pub low-bytes : ℕ → ℕ → List ℕ
+low-bytes zero w = []
+low-bytes (suc n) w = w % 256 ∷ low-bytes n (w / 256)
+
+pub low-length : (n w : ℕ) → length (low-bytes n w) ≡ n
+unfolding low-bytes
+low-length zero w = refl
+low-length (suc n) w = ap suc (low-length n (w / 256))
+
+-- stores one behind the other
+pub sets-then : (o : List ℕ) (at : ℕ) (s t : List ℕ) → sets (sets o at s) (at + length s) t ≡ sets o at (s ++ t)
+sets-then o at [] t = let e : at + 0 ≡ at = omega arith in ap (λ (i : ℕ). sets o i t) e
+sets-then o at (x ∷ s) t = let e : at + suc (length s) ≡ suc at + length s = omega arith in ap (λ (i : ℕ). sets (sets (set o at x) (suc at) s) i t) e ∙ sets-then (set o at x) (suc at) s t
+
+-- no byte stored yet, one more, and all
+pub low-none : (o : List ℕ) (at n w : ℕ) → sets o (at + 0) (low-bytes (n - 0) w) ≡ sets o at (low-bytes n w)
+low-none o at n w =
+    let e : n - 0 ≡ n = omega arith in
+    let d : at + 0 ≡ at = omega arith in
+    rw (e, d)
+
+pub low-more : (o : List ℕ) (at n i w : ℕ) → i < n → sets (set o (at + i) (w % 256)) (at + (i + 1)) (low-bytes (n - (i + 1)) (w / 256)) ≡ sets o (at + i) (low-bytes (n - i) w)
+unfolding low-bytes
+low-more o at n i w h =
+    let e : n - i ≡ suc (n - (i + 1)) = omega arith in
+    let d : at + (i + 1) ≡ suc (at + i) = omega arith in
+    rw (e, d)
+
+pub low-done : (o : List ℕ) (at n i w : ℕ) → n ≤ i → sets o at (low-bytes (n - i) w) ≡ o
+unfolding low-bytes
+low-done o at n i w h = let e : n - i ≡ 0 = omega arith in rw e
+
+-- the eight bytes by one division each
+pub low-eight : (w : ℕ) → w % 256 ∷ w / 256 % 256 ∷ w / 65536 % 256 ∷ w / 16777216 % 256 ∷ w / 4294967296 % 256 ∷ w / 1099511627776 % 256 ∷ w / 281474976710656 % 256 ∷ w / 72057594037927936 % 256 ∷ [] ≡ low-bytes 8 w
+unfolding low-bytes
+low-eight w = rw (div-div-eq-div-mul w 256 256, div-div-eq-div-mul w 65536 256, div-div-eq-div-mul w 16777216 256, div-div-eq-div-mul w 4294967296 256, div-div-eq-div-mul w 1099511627776 256, div-div-eq-div-mul w 281474976710656 256)
+
+-- bytes stored within the slice
+pub wrote-stored : {room at r : ℕ} {o o' : List ℕ} (s : List ℕ) → Room room o at → o' ≡ sets o at s → r ≡ at + length s → r ≤ length o → Wrote room o o' at s r
+wrote-stored {room} {at} {r} {o} {o'} s h d e k =
+    let l : at + length s ≤ length o = omega arith in
+    wrote-in s h e k (d ∙ sets-eq s o at l ∙ ap (λ (i : ℕ). take at o ++ s ++ drop i o) (sym e)) (ap length d ∙ length-sets o at s)

@@ -3,7 +3,8 @@ ghost use mathlib.Core.Path.{_≡_};
 ghost use Prim.Native.Nat.{_+_, _≤_};
 ghost use mathlib.Core.List.{_++_, _∷_, []};
 ghost use lib.ListN.{length, take, drop};
-ghost use Rattle.output.specs.Sink.{part, Room, Wrote};
+ghost use lib.Seq.{sets};
+ghost use Rattle.output.specs.Sink.{part, Room, Wrote, low-bytes};
 
 // Copies bytes into out from at on.
 fn copy(out: &mut [u8], at: usize, bytes: &[u8])
@@ -65,4 +66,33 @@ pub fn put_byte(out: &mut [u8], at: usize, room: usize, b: u8) -> usize
         return at + 1;
     }
     at + 1
+}
+
+// Stores the eight bytes of a word, the least first.
+pub fn store_word(out: &mut [u8], at: usize, w: u64)
+    requires { ⌜ at + 8 ≤ length (now out) ⌝ }
+    ensures { λ _. ⌜ now (out .exit) ≡ sets (now (out .entry)) at (low-bytes 8 w) ⌝ }
+{
+    out[at] = (w % 256) as u8;
+    out[at + 1] = (w / 256 % 256) as u8;
+    out[at + 2] = (w / 65536 % 256) as u8;
+    out[at + 3] = (w / 16777216 % 256) as u8;
+    out[at + 4] = (w / 4294967296 % 256) as u8;
+    out[at + 5] = (w / 1099511627776 % 256) as u8;
+    out[at + 6] = (w / 281474976710656 % 256) as u8;
+    out[at + 7] = (w / 72057594037927936 % 256) as u8;
+}
+
+// Stores the n low bytes of a word, the least first.
+pub fn store_low(out: &mut [u8], at: usize, n: usize, w: u64)
+    requires { ⌜ at + n ≤ length (now out) ⌝ }
+    ensures { λ _. ⌜ now (out .exit) ≡ sets (now (out .entry)) at (low-bytes n w) ⌝ }
+{
+    let mut rest = w;
+    let mut i = 0;
+    while i < n {
+        out[at + i] = (rest % 256) as u8;
+        rest /= 256;
+        i += 1;
+    }
 }

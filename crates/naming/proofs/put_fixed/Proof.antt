@@ -1,38 +1,24 @@
 -- `naming::put_fixed` meets its contract. Assumes nothing.
-use Rattle.definition.specs.Base.{opened as opened₀}
-use Rattle.output.specs.Sink.{wrote-is}
-use Rattle.fixed_names.specs.Fixed.{fixed-names, joined, names}
-use Rattle.naming.proofs.Lists.{same-part}
+use mathlib.Core.Path.{sym, ap}
+use Rattle.definition.specs.Base.{bytes}
+use Rattle.output.specs.Sink.{wrote-is, wrote-nothing}
+use Rattle.fixed_names.proofs.FixedNames.{numbered-fixed, fixed-past}
 use borrow.Author.Needs.{needs}
 use Rattle.naming.proofs.put_fixed.Statement.{statement}
 use Rattle.naming.proofs.put_fixed.Tie as tie
 
-fixed-name-requires : tie.Need-fixed-name-requires
-fixed-name-requires c κs = search needs
-
-add-to : tie.Need-add-to
-add-to c = search needs
-
-slice-aggregate-put-part : tie.Need-slice-aggregate-put-part
-slice-aggregate-put-part c = search needs
-
-put-part-requires : tie.Need-put-part-requires
-put-part-requires c κs = search needs
-
-returns : tie.Need-returns
-unfolding opened₀ names joined fixed-names
-returns c = wrote-is (same-part names (c .before .before .before .before .before .before .fixed-name .result .start) (c .before .before .before .before .before .before .fixed-name .result .len) (c .before .before .before .before .before .before .fixed-name .ensures .is)) (c .before .before .put-part .ensures)
+put-numbered-requires : tie.Need-put-numbered-requires
+put-numbered-requires c κs = search needs
 
 same-length : tie.Need-same-length
 same-length c = search needs
 
+returns : tie.Need-returns
+returns c = wrote-is (ap bytes (numbered-fixed (c .before .before .before .before .before .before .args .n) (c .before .before .before .before .if1 .taken))) (c .before .before .put-numbered .ensures)
+
+returns-2 : tie.Need-returns-2
+unfolding bytes
+returns-2 c = wrote-is (sym (ap bytes (fixed-past (c .before .before .args .n) (c .if1 .left)))) (wrote-nothing (c .before .before .pre))
+
 pub put-fixed-spec : {M : Type 1} → statement M
-put-fixed-spec =
-    tie.close
-    (tie.spec
-    fixed-name-requires
-    add-to
-    slice-aggregate-put-part
-    put-part-requires
-    same-length
-    returns)
+put-fixed-spec = tie.close (tie.spec put-numbered-requires same-length returns returns-2)
