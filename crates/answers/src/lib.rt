@@ -1,58 +1,22 @@
-// What a run's end comes to: the answer of a call, once the checks before the run have passed.
-ghost use mathlib.Core.Path.{_≡_};
+// What the reading's run comes to: the answer of a call, once the checks before the run have passed.
 ghost use Prim.Native.Nat.{_*_, _≤_};
 ghost use lib.ListN.{length};
 ghost use Rattle.definition.specs.Calls as Calls;
-ghost use Rattle.definition.specs.Check as Check;
-ghost use Rattle.definition.specs.Enums as Enums;
 ghost use Rattle.definition.specs.Reading as Reading;
-ghost use Rattle.budget.specs.Spent.{budget-of};
+ghost use Rattle.endings.specs.Answers.{Answers};
 ghost use Rattle.nodes.specs.Gives.{Beyond};
 ghost use Rattle.runs.specs.Ends.{kinds-of};
-ghost use Rattle.stores.specs.Stores.{Outside};
 ghost use Rattle.symbols.specs.Symbol as Symbols;
-ghost use Rattle.answers.specs.Answers.{Answers, Held, Finishes, Measured, Stacked};
-use budget::Budget;
-use checking::Ended as Checked;
+ghost use Rattle.answers.specs.Answers.{Held, Finishes};
 use definition::Answer;
-use definition::Counts;
 use definition::Refusal;
+use endings::measured;
+use endings::stacked;
 use reading::Ended;
 use reading::Left;
 use records::State;
 use runs::Final;
-use runs::Written;
 use words::Words;
-
-fn counts(budget: Budget) -> Counts
-    ensures { λ r. ⌜ r ≡ record { steps = budget .steps; total = budget .total; wraps = budget .wraps } ⌝ }
-{
-    Counts {
-        steps: budget.steps,
-        total: budget.total,
-        wraps: budget.wraps,
-    }
-}
-
-// A text of that length, where there is room for so many bytes. 12: it exceeds them.
-fn measured(budget: Budget, n: usize, room: usize) -> Answer
-    ensures { λ r. ⌜ Measured (budget-of budget) n room r ⌝ }
-{
-    if room < n {
-        return Answer::Refused(Refusal::Output, 0);
-    }
-    Answer::Accepted(counts(budget), n)
-}
-
-// What a stopped run wrote. 12: the stack exceeds the slice.
-fn stacked(budget: Budget, written: Written) -> Answer
-    ensures { λ r. ⌜ Stacked (budget-of budget) written r ⌝ }
-{
-    match written {
-        Written::Numbers(n) => Answer::Accepted(counts(budget), n),
-        Written::Past => Answer::Refused(Refusal::Output, 0),
-    }
-}
 
 // The text of the one tree that is left, with the suffix. 11: not exactly one is, or one of a kind that is not taken.
 fn finish(
@@ -79,8 +43,6 @@ fn finish(
         Left::Nothing => Answer::Refused(Refusal::Leftover, end),
     }
 }
-
-// Reading
 
 // The whole run over text[start..end], and the text that it comes to.
 pub fn read_body(
@@ -130,54 +92,5 @@ pub fn read_stopped_body(
             stacked(budget, written)
         }
         Ended::Stopped(r, at) => Answer::Refused(r, start + at),
-    }
-}
-
-// Shape check
-
-// The whole check of text[start..end].
-pub fn check_body(
-    text: &[u8],
-    start: usize,
-    end: usize,
-    what: Final,
-    ceiling: usize,
-    workspace: &mut [u32],
-) -> Answer
-    requires { ⌜ (start ≤ end) × (end ≤ length (now text)) × (length (now text) ≤ 65535) × (ceiling ≤ 65536) × (8 * ceiling ≤ length (now workspace)) ⌝ }
-    ensures { λ r. ⌜ (Enums.values r ≡ Check.whole ceiling (kinds-of what) (Symbols.symbol (now (text .entry)) start end) .values) × Outside ceiling (now (workspace .entry)) (now (workspace .exit)) ⌝ }
-{
-    match checking::run(&text[start..end], 4097, workspace, ceiling) {
-        Checked::Ran(st) => {
-            if checking::single(workspace, st, what) {
-                let budget = st.budget;
-                return Answer::Accepted(counts(budget), 0);
-            }
-            Answer::Refused(Refusal::Leftover, end)
-        }
-        Checked::Stopped(r, at) => Answer::Refused(r, start + at),
-    }
-}
-
-// The check of text[start..end], stopped after k operators, and its entries.
-pub fn check_stopped_body(
-    text: &[u8],
-    start: usize,
-    end: usize,
-    ceiling: usize,
-    k: usize,
-    workspace: &mut [u32],
-    out: &mut [u32],
-) -> Answer
-    requires { ⌜ (start ≤ end) × (end ≤ length (now text)) × (length (now text) ≤ 65535) × (ceiling ≤ 65536) × (8 * ceiling ≤ length (now workspace)) ⌝ }
-    ensures { λ r. ⌜ Answers (Calls.within (length (now (out .entry))) (Check.stopped-after ceiling k (Symbols.symbol (now (text .entry)) start end))) (now (out .entry)) (now (out .exit)) r × Outside ceiling (now (workspace .entry)) (now (workspace .exit)) ⌝ }
-{
-    match checking::run(&text[start..end], k, workspace, ceiling) {
-        Checked::Ran(st) => {
-            let written = checking::write_stack(workspace, st, out);
-            let budget = st.budget;
-            stacked(budget, written)
-        }
-        Checked::Stopped(r, at) => Answer::Refused(r, start + at),
     }
 }

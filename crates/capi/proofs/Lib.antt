@@ -1,1 +1,1 @@
-pub mod SixNumbers
+pub mod Telling

@@ -1,1 +1,1 @@
-pub mod Six
+pub mod Told

@@ -3,35 +3,10 @@
 ghost use mathlib.Core.Path.{_≡_};
 ghost use lib.ListN.{length};
 ghost use Rattle.definition.specs.Check as Check;
-ghost use Rattle.definition.specs.Enums.{values};
 ghost use Rattle.definition.specs.Reading as Reading;
-ghost use Rattle.swift_demangle.specs.Calls.{Scratch};
-ghost use Rattle.capi.specs.Six.{six, Told};
-use definition::Answer;
-
-// The answer as six numbers.
-fn numbers(a: Answer) -> [u64; 6]
-    ensures { λ r. ⌜ r ≡ six (values a) ⌝ }
-{
-    match a {
-        Answer::Accepted(counts, length) => [
-            0,
-            0,
-            counts.steps as u64,
-            counts.total as u64,
-            counts.wraps as u64,
-            length as u64,
-        ],
-        Answer::Refused(refusal, place) => [
-            swift_demangle::number(refusal) as u64,
-            place as u64,
-            0,
-            0,
-            0,
-            0,
-        ],
-    }
-}
+ghost use Rattle.calls.specs.Calls.{Scratch};
+ghost use Rattle.values.specs.Six.{six};
+ghost use Rattle.capi.specs.Told.{Told};
 
 // Reads a symbol.
 #[no_mangle]
@@ -45,7 +20,7 @@ pub extern "C" fn swift_demangle(
     ensures { λ _. ⌜ Told (Reading.demangle (now (text .entry)) ceiling (length (now (workspace .entry))) (length (now (out .entry)))) (now (out .entry)) (now (out .exit)) (now (answer .exit)) × Scratch 64 ceiling ((Reading.demangle (now (text .entry)) ceiling (length (now (workspace .entry))) (length (now (out .entry)))) .values .number) (now (workspace .entry)) (now (workspace .exit)) ⌝ }
 {
     let a = swift_demangle::demangle(text, ceiling, workspace, out);
-    *answer = numbers(a);
+    *answer = values::numbers(a);
 }
 
 // Reads a type.
@@ -60,7 +35,7 @@ pub extern "C" fn swift_demangle_type(
     ensures { λ _. ⌜ Told (Reading.demangle-type (now (text .entry)) ceiling (length (now (workspace .entry))) (length (now (out .entry)))) (now (out .entry)) (now (out .exit)) (now (answer .exit)) × Scratch 64 ceiling ((Reading.demangle-type (now (text .entry)) ceiling (length (now (workspace .entry))) (length (now (out .entry)))) .values .number) (now (workspace .entry)) (now (workspace .exit)) ⌝ }
 {
     let a = swift_demangle::demangle_type(text, ceiling, workspace, out);
-    *answer = numbers(a);
+    *answer = values::numbers(a);
 }
 
 // Checks the shape of a symbol.
@@ -74,7 +49,7 @@ pub extern "C" fn swift_shape(
     ensures { λ _. ⌜ (now (answer .exit) ≡ six ((Check.shape (now (text .entry)) ceiling (length (now (workspace .entry)))) .values)) × Scratch 8 ceiling ((Check.shape (now (text .entry)) ceiling (length (now (workspace .entry)))) .values .number) (now (workspace .entry)) (now (workspace .exit)) ⌝ }
 {
     let a = swift_demangle::shape(text, ceiling, workspace);
-    *answer = numbers(a);
+    *answer = values::numbers(a);
 }
 
 // Checks the shape of a type.
@@ -88,7 +63,7 @@ pub extern "C" fn swift_shape_type(
     ensures { λ _. ⌜ (now (answer .exit) ≡ six ((Check.shape-type (now (text .entry)) ceiling (length (now (workspace .entry)))) .values)) × Scratch 8 ceiling ((Check.shape-type (now (text .entry)) ceiling (length (now (workspace .entry)))) .values .number) (now (workspace .entry)) (now (workspace .exit)) ⌝ }
 {
     let a = swift_demangle::shape_type(text, ceiling, workspace);
-    *answer = numbers(a);
+    *answer = values::numbers(a);
 }
 
 // Reads a symbol's first k operators.
@@ -104,7 +79,7 @@ pub extern "C" fn swift_demangle_stopped(
     ensures { λ _. ⌜ Told (Reading.demangle-stopped (now (text .entry)) ceiling k (length (now (workspace .entry))) (length (now (out .entry)))) (now (out .entry)) (now (out .exit)) (now (answer .exit)) × Scratch 64 ceiling ((Reading.demangle-stopped (now (text .entry)) ceiling k (length (now (workspace .entry))) (length (now (out .entry)))) .values .number) (now (workspace .entry)) (now (workspace .exit)) ⌝ }
 {
     let a = swift_demangle::demangle_stopped(text, ceiling, k, workspace, out);
-    *answer = numbers(a);
+    *answer = values::numbers(a);
 }
 
 // Reads a type's first k operators.
@@ -120,7 +95,7 @@ pub extern "C" fn swift_demangle_type_stopped(
     ensures { λ _. ⌜ Told (Reading.demangle-type-stopped (now (text .entry)) ceiling k (length (now (workspace .entry))) (length (now (out .entry)))) (now (out .entry)) (now (out .exit)) (now (answer .exit)) × Scratch 64 ceiling ((Reading.demangle-type-stopped (now (text .entry)) ceiling k (length (now (workspace .entry))) (length (now (out .entry)))) .values .number) (now (workspace .entry)) (now (workspace .exit)) ⌝ }
 {
     let a = swift_demangle::demangle_type_stopped(text, ceiling, k, workspace, out);
-    *answer = numbers(a);
+    *answer = values::numbers(a);
 }
 
 // Checks a symbol's first k operators.
@@ -136,7 +111,7 @@ pub extern "C" fn swift_shape_stopped(
     ensures { λ _. ⌜ Told (Check.shape-stopped (now (text .entry)) ceiling k (length (now (workspace .entry))) (length (now (out .entry)))) (now (out .entry)) (now (out .exit)) (now (answer .exit)) × Scratch 8 ceiling ((Check.shape-stopped (now (text .entry)) ceiling k (length (now (workspace .entry))) (length (now (out .entry)))) .values .number) (now (workspace .entry)) (now (workspace .exit)) ⌝ }
 {
     let a = swift_demangle::shape_stopped(text, ceiling, k, workspace, out);
-    *answer = numbers(a);
+    *answer = values::numbers(a);
 }
 
 // Checks a type's first k operators.
@@ -152,5 +127,5 @@ pub extern "C" fn swift_shape_type_stopped(
     ensures { λ _. ⌜ Told (Check.shape-type-stopped (now (text .entry)) ceiling k (length (now (workspace .entry))) (length (now (out .entry)))) (now (out .entry)) (now (out .exit)) (now (answer .exit)) × Scratch 8 ceiling ((Check.shape-type-stopped (now (text .entry)) ceiling k (length (now (workspace .entry))) (length (now (out .entry)))) .values .number) (now (workspace .entry)) (now (workspace .exit)) ⌝ }
 {
     let a = swift_demangle::shape_type_stopped(text, ceiling, k, workspace, out);
-    *answer = numbers(a);
+    *answer = values::numbers(a);
 }

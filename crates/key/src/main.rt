@@ -36,7 +36,7 @@ fn show_text(text: &[u8], n: usize) {
 
 fn show_refusal(refusal: Refusal, place: usize) {
     io::write_all(1, b"!");
-    put(swift_demangle::number(refusal));
+    put(values::number(refusal));
     put(place);
 }
 
@@ -87,7 +87,7 @@ fn answer_line(line: &[u8], ws: &mut [u32], out: &mut [u8]) {
 fn answer_lines(all: &[u8], ws: &mut [u32], out: &mut [u8]) {
     let mut at = 0;
     while at < all.len() {
-        let end = lines::line_end(all, at);
+        let end = line_ends::line_end(all, at);
         answer_line(&all[at..end], ws, out);
         at = end + 1;
     }

@@ -1,4 +1,4 @@
-// The answer lines of the programs `names` and `shapes` (specs/Lines.antt).
+// The answers of the programs `names` and `shapes`: of one line, and of the lines of a buffer (line_forms/specs/Lines.antt).
 ghost use mathlib.Core.Path.{_≡_};
 ghost use Prim.Native.Nat.{_+_, _≤_, _<_, _^_};
 ghost use lib.ListN.{length};
@@ -6,19 +6,15 @@ ghost use Rattle.definition.specs.Calls as Calls;
 ghost use Rattle.definition.specs.Check as Check;
 ghost use Rattle.definition.specs.Enums.{values};
 ghost use Rattle.definition.specs.Reading as Reading;
-ghost use Rattle.output.specs.Sink.{Room, Wrote};
-ghost use Rattle.lines.specs.Lines.{field, refused-line, accepted-line, counts-told, name-answer, shape-answer, line-of};
-ghost use Rattle.lines.specs.Does.{Space, Appends, Reads, Ends, Answered};
+ghost use Rattle.line_forms.specs.Appends.{Space, Appends};
+ghost use Rattle.line_forms.specs.Lines.{name-answer, shape-answer, line-of};
+ghost use Rattle.lines.specs.Does.{Reads, Answered};
 use definition::Answer;
-use definition::Counts;
-use numerals::put_decimal;
+use line_ends::line_end;
+use line_forms::Asked;
+use line_forms::put_counts;
+use line_forms::put_refusal;
 use output::put_byte;
-
-// What is asked of each line: a symbol's text, or its shape.
-pub enum Asked {
-    Name,
-    Shape,
-}
 
 const CEILING: usize = 256;
 
@@ -30,27 +26,6 @@ const TEXT: usize = 16384;
 
 // The longest answer: `=`, a tab, a text and a newline.
 const ANSWER: usize = 16387;
-
-// Appends a tab and a number.
-fn put_field(out: &mut [u8], at: usize, room: usize, n: usize) -> usize
-    requires { ⌜ Room room (now out) at ⌝ }
-    ensures { λ r. ⌜ Wrote room (now (out .entry)) (now (out .exit)) at (field n) r ⌝ }
-{
-    let r = put_byte(out, at, room, b'\t');
-    put_decimal(out, r, room, n)
-}
-
-// Appends the line of a refusal.
-fn put_refusal(out: &mut [u8], at: usize, number: usize, place: usize) -> usize
-    requires { ⌜ Space (now out) at ⌝ }
-    ensures { λ r. ⌜ Appends (now (out .entry)) (now (out .exit)) at (refused-line number place) r ⌝ }
-{
-    let room = out.len();
-    let marked = put_byte(out, at, room, b'!');
-    let numbered = put_field(out, marked, room, number);
-    let placed = put_field(out, numbered, room, place);
-    put_byte(out, placed, room, b'\n')
-}
 
 // Reads a symbol, with its text from at on.
 fn read(line: &[u8], ws: &mut [u32], out: &mut [u8], at: usize) -> Answer
@@ -73,26 +48,8 @@ fn answer_name(line: &[u8], ws: &mut [u32], out: &mut [u8], at: usize) -> usize
     match read(line, ws, out, from) {
         Answer::Accepted(_, n) => put_byte(out, from + n, room, b'\n'),
         // over `=` and the tab
-        Answer::Refused(refusal, place) => put_refusal(
-            out,
-            at,
-            swift_demangle::number(refusal),
-            place,
-        ),
+        Answer::Refused(refusal, place) => put_refusal(out, at, values::number(refusal), place),
     }
-}
-
-// Appends `=`, the three counts and a newline.
-fn put_counts(out: &mut [u8], at: usize, counts: Counts) -> usize
-    requires { ⌜ Space (now out) at ⌝ }
-    ensures { λ r. ⌜ Appends (now (out .entry)) (now (out .exit)) at (accepted-line (counts-told (counts .steps) (counts .total) (counts .wraps))) r ⌝ }
-{
-    let room = out.len();
-    let marked = put_byte(out, at, room, b'=');
-    let steps = put_field(out, marked, room, counts.steps);
-    let total = put_field(out, steps, room, counts.total);
-    let wraps = put_field(out, total, room, counts.wraps);
-    put_byte(out, wraps, room, b'\n')
 }
 
 // Answers a line with the counts of a symbol's shape check.
@@ -103,12 +60,7 @@ fn answer_shape(line: &[u8], ws: &mut [u32], out: &mut [u8], at: usize) -> usize
 {
     match swift_demangle::shape(line, CEILING, ws) {
         Answer::Accepted(counts, _) => put_counts(out, at, counts),
-        Answer::Refused(refusal, place) => put_refusal(
-            out,
-            at,
-            swift_demangle::number(refusal),
-            place,
-        ),
+        Answer::Refused(refusal, place) => put_refusal(out, at, values::number(refusal), place),
     }
 }
 
@@ -125,21 +77,6 @@ pub fn answer_line(asked: Asked, line: &[u8], ws: &mut [u32], out: &mut [u8], at
         Asked::Name => answer_name(line, ws, out, at),
         Asked::Shape => answer_shape(line, ws, out, at),
     }
-}
-
-// The end of the line that begins at from.
-pub fn line_end(text: &[u8], from: usize) -> usize
-    requires { ⌜ from ≤ length (now text) ⌝ }
-    ensures { λ r. ⌜ Ends (now (text .entry)) from r ⌝ }
-{
-    let mut at = from;
-    while at < text.len() {
-        if text[at] == b'\n' {
-            return at;
-        }
-        at += 1;
-    }
-    at
 }
 
 // How many bytes of the input were answered, and how many bytes their answers have.

@@ -1,5 +1,5 @@
-// Each line of standard input is a symbol; its text, or its refusal, is a line of standard output (crates/lines/specs/Lines.antt).
-use lines::Asked;
+// Each line of standard input is a symbol; its text, or its refusal, is a line of standard output (crates/line_forms/specs/Lines.antt).
+use line_forms::Asked;
 
 fn main() {
     stream::answer_input(Asked::Name);

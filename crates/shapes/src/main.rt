@@ -1,6 +1,6 @@
 // Each line of standard input is a symbol; the counts of its shape check, or its refusal, are a line of standard output
-// (crates/lines/specs/Lines.antt).
-use lines::Asked;
+// (crates/line_forms/specs/Lines.antt).
+use line_forms::Asked;
 
 fn main() {
     stream::answer_input(Asked::Shape);

@@ -32,26 +32,9 @@ fn comma() {
     io::write_all(1, b",");
 }
 
-fn number(f: Refusal) -> usize {
-    match f {
-        Refusal::Ceiling => 1,
-        Refusal::Workspace => 2,
-        Refusal::Length => 3,
-        Refusal::Encoding => 4,
-        Refusal::Prefix => 5,
-        Refusal::Steps => 6,
-        Refusal::Charge => 7,
-        Refusal::Nesting => 8,
-        Refusal::Spelling => 9,
-        Refusal::Stack => 10,
-        Refusal::Leftover => 11,
-        Refusal::Output => 12,
-    }
-}
-
 fn refused(f: Refusal, at: usize) {
     io::write_all(1, b"! ");
-    put(number(f));
+    put(values::number(f));
     space();
     put(at);
 }
@@ -165,25 +148,10 @@ fn run_line(line: &[u8]) {
     io::write_all(1, b"\n");
 }
 
-// The end of the line that begins at from.
-fn line_end(all: &[u8], from: usize) -> usize
-    requires { ⌜ from ≤ length (now all) ⌝ }
-    ensures { λ r. ⌜ (from ≤ r) × (r ≤ length (now (all .entry))) ⌝ }
-{
-    let mut at = from;
-    while at < all.len() {
-        if all[at] == b'\n' {
-            return at;
-        }
-        at += 1;
-    }
-    at
-}
-
 fn run_lines(all: &[u8]) {
     let mut at = 0;
     while at < all.len() {
-        let end = line_end(all, at);
+        let end = line_ends::line_end(all, at);
         run_line(&all[at..end]);
         at = end + 1;
     }

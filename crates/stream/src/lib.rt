@@ -3,10 +3,10 @@
 ghost use mathlib.Core.Path.{_≡_};
 ghost use Prim.Native.Nat.{_+_, _≤_, _<_, _^_};
 ghost use lib.ListN.{length};
-use lines::Asked;
+use line_ends::line_end;
+use line_forms::Asked;
 use lines::answer_line;
 use lines::answer_lines;
-use lines::line_end;
 
 // 64 × 256 numbers.
 fn workspace() -> [u32; 16384]

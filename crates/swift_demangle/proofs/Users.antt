@@ -21,7 +21,7 @@ use Rattle.definition.specs.Check as Check
 use Rattle.definition.specs.Enums.{values}
 use Rattle.definition.specs.declared.Answer.{Answer}
 use Rattle.definition.proofs.RunNumbers.{InRun, read-numbers, check-numbers}
-use Rattle.answers.specs.Answers.{Answers}
+use Rattle.endings.specs.Answers.{Answers}
 
 -- THE DEFINITION'S ANSWERS, BEFORE 12
 -- a refusal writes nothing; the length is that of what is written; the number is 0 to 11

@@ -5,126 +5,37 @@ ghost use lib.ListN.{length};
 ghost use Rattle.definition.specs.Check as Check;
 ghost use Rattle.definition.specs.Enums as Enums;
 ghost use Rattle.definition.specs.Reading as Reading;
-ghost use Rattle.answers.specs.Answers.{Answers};
-ghost use Rattle.swift_demangle.specs.Calls.{read-whole, read-stopped, check-whole, check-stopped, Scratch};
-use admission::Admitted;
+ghost use Rattle.endings.specs.Answers.{Answers};
+ghost use Rattle.calls.specs.Calls.{Scratch};
 use definition::Answer;
-use definition::Refusal;
 use runs::Final;
-
-// Reading
-
-fn read(text: &[u8], what: Final, ceiling: usize, workspace: &mut [u32], out: &mut [u8]) -> Answer
-    ensures { λ r. ⌜ Answers (read-whole what (now (text .entry)) ceiling (length (now (workspace .entry))) (length (now (out .entry)))) (now (out .entry)) (now (out .exit)) r × Scratch 64 ceiling (Enums.values r .number) (now (workspace .entry)) (now (workspace .exit)) ⌝ }
-{
-    match admission::admit(text, what, ceiling, 64, workspace.len()) {
-        Admitted::Body(start, end) => answers::read_body(
-            text,
-            start,
-            end,
-            what,
-            ceiling,
-            workspace,
-            out,
-        ),
-        Admitted::Refused(r, at) => Answer::Refused(r, at),
-    }
-}
-
-fn read_stopped(
-    text: &[u8],
-    what: Final,
-    ceiling: usize,
-    k: usize,
-    workspace: &mut [u32],
-    out: &mut [u32],
-) -> Answer
-    ensures { λ r. ⌜ Answers (read-stopped what (now (text .entry)) ceiling k (length (now (workspace .entry))) (length (now (out .entry)))) (now (out .entry)) (now (out .exit)) r × Scratch 64 ceiling (Enums.values r .number) (now (workspace .entry)) (now (workspace .exit)) ⌝ }
-{
-    match admission::admit(text, what, ceiling, 64, workspace.len()) {
-        Admitted::Body(start, end) => answers::read_stopped_body(
-            text,
-            start,
-            end,
-            ceiling,
-            k,
-            workspace,
-            out,
-        ),
-        Admitted::Refused(r, at) => Answer::Refused(r, at),
-    }
-}
-
-// Shape check
-
-fn check(text: &[u8], what: Final, ceiling: usize, workspace: &mut [u32]) -> Answer
-    ensures { λ r. ⌜ (Enums.values r ≡ check-whole what (now (text .entry)) ceiling (length (now (workspace .entry))) .values) × Scratch 8 ceiling (Enums.values r .number) (now (workspace .entry)) (now (workspace .exit)) ⌝ }
-{
-    match admission::admit(text, what, ceiling, 8, workspace.len()) {
-        Admitted::Body(start, end) => answers::check_body(
-            text,
-            start,
-            end,
-            what,
-            ceiling,
-            workspace,
-        ),
-        Admitted::Refused(r, at) => Answer::Refused(r, at),
-    }
-}
-
-fn check_stopped(
-    text: &[u8],
-    what: Final,
-    ceiling: usize,
-    k: usize,
-    workspace: &mut [u32],
-    out: &mut [u32],
-) -> Answer
-    ensures { λ r. ⌜ Answers (check-stopped what (now (text .entry)) ceiling k (length (now (workspace .entry))) (length (now (out .entry)))) (now (out .entry)) (now (out .exit)) r × Scratch 8 ceiling (Enums.values r .number) (now (workspace .entry)) (now (workspace .exit)) ⌝ }
-{
-    match admission::admit(text, what, ceiling, 8, workspace.len()) {
-        Admitted::Body(start, end) => answers::check_stopped_body(
-            text,
-            start,
-            end,
-            ceiling,
-            k,
-            workspace,
-            out,
-        ),
-        Admitted::Refused(r, at) => Answer::Refused(r, at),
-    }
-}
-
-// The calls
 
 // Reads a symbol, and writes its text to the front of out.
 pub fn demangle(text: &[u8], ceiling: usize, workspace: &mut [u32], out: &mut [u8]) -> Answer
     ensures { λ r. ⌜ Answers (Reading.demangle (now (text .entry)) ceiling (length (now (workspace .entry))) (length (now (out .entry)))) (now (out .entry)) (now (out .exit)) r × Scratch 64 ceiling (Enums.values r .number) (now (workspace .entry)) (now (workspace .exit)) ⌝ }
 {
-    read(text, Final::Symbol, ceiling, workspace, out)
+    calls::read(text, Final::Symbol, ceiling, workspace, out)
 }
 
 // Reads a type.
 pub fn demangle_type(text: &[u8], ceiling: usize, workspace: &mut [u32], out: &mut [u8]) -> Answer
     ensures { λ r. ⌜ Answers (Reading.demangle-type (now (text .entry)) ceiling (length (now (workspace .entry))) (length (now (out .entry)))) (now (out .entry)) (now (out .exit)) r × Scratch 64 ceiling (Enums.values r .number) (now (workspace .entry)) (now (workspace .exit)) ⌝ }
 {
-    read(text, Final::Type, ceiling, workspace, out)
+    calls::read(text, Final::Type, ceiling, workspace, out)
 }
 
 // Checks the shape of a symbol.
 pub fn shape(text: &[u8], ceiling: usize, workspace: &mut [u32]) -> Answer
     ensures { λ r. ⌜ (Enums.values r ≡ Check.shape (now (text .entry)) ceiling (length (now (workspace .entry))) .values) × Scratch 8 ceiling (Enums.values r .number) (now (workspace .entry)) (now (workspace .exit)) ⌝ }
 {
-    check(text, Final::Symbol, ceiling, workspace)
+    calls::check(text, Final::Symbol, ceiling, workspace)
 }
 
 // Checks the shape of a type.
 pub fn shape_type(text: &[u8], ceiling: usize, workspace: &mut [u32]) -> Answer
     ensures { λ r. ⌜ (Enums.values r ≡ Check.shape-type (now (text .entry)) ceiling (length (now (workspace .entry))) .values) × Scratch 8 ceiling (Enums.values r .number) (now (workspace .entry)) (now (workspace .exit)) ⌝ }
 {
-    check(text, Final::Type, ceiling, workspace)
+    calls::check(text, Final::Type, ceiling, workspace)
 }
 
 // Reads a symbol's first k operators, and writes the stack's entries to the front of out, three numbers each, the bottom first.
@@ -137,7 +48,7 @@ pub fn demangle_stopped(
 ) -> Answer
     ensures { λ r. ⌜ Answers (Reading.demangle-stopped (now (text .entry)) ceiling k (length (now (workspace .entry))) (length (now (out .entry)))) (now (out .entry)) (now (out .exit)) r × Scratch 64 ceiling (Enums.values r .number) (now (workspace .entry)) (now (workspace .exit)) ⌝ }
 {
-    read_stopped(text, Final::Symbol, ceiling, k, workspace, out)
+    calls::read_stopped(text, Final::Symbol, ceiling, k, workspace, out)
 }
 
 // The same of a type.
@@ -150,7 +61,7 @@ pub fn demangle_type_stopped(
 ) -> Answer
     ensures { λ r. ⌜ Answers (Reading.demangle-type-stopped (now (text .entry)) ceiling k (length (now (workspace .entry))) (length (now (out .entry)))) (now (out .entry)) (now (out .exit)) r × Scratch 64 ceiling (Enums.values r .number) (now (workspace .entry)) (now (workspace .exit)) ⌝ }
 {
-    read_stopped(text, Final::Type, ceiling, k, workspace, out)
+    calls::read_stopped(text, Final::Type, ceiling, k, workspace, out)
 }
 
 // Checks the shape of a symbol's first k operators, and writes the stack's entries.
@@ -163,7 +74,7 @@ pub fn shape_stopped(
 ) -> Answer
     ensures { λ r. ⌜ Answers (Check.shape-stopped (now (text .entry)) ceiling k (length (now (workspace .entry))) (length (now (out .entry)))) (now (out .entry)) (now (out .exit)) r × Scratch 8 ceiling (Enums.values r .number) (now (workspace .entry)) (now (workspace .exit)) ⌝ }
 {
-    check_stopped(text, Final::Symbol, ceiling, k, workspace, out)
+    calls::check_stopped(text, Final::Symbol, ceiling, k, workspace, out)
 }
 
 // The same of a type.
@@ -176,25 +87,5 @@ pub fn shape_type_stopped(
 ) -> Answer
     ensures { λ r. ⌜ Answers (Check.shape-type-stopped (now (text .entry)) ceiling k (length (now (workspace .entry))) (length (now (out .entry)))) (now (out .entry)) (now (out .exit)) r × Scratch 8 ceiling (Enums.values r .number) (now (workspace .entry)) (now (workspace .exit)) ⌝ }
 {
-    check_stopped(text, Final::Type, ceiling, k, workspace, out)
-}
-
-// The number that document 01 gives a refusal.
-pub fn number(refusal: Refusal) -> usize
-    ensures { λ r. ⌜ r ≡ Enums.number refusal ⌝ }
-{
-    match refusal {
-        Refusal::Ceiling => 1,
-        Refusal::Workspace => 2,
-        Refusal::Length => 3,
-        Refusal::Encoding => 4,
-        Refusal::Prefix => 5,
-        Refusal::Steps => 6,
-        Refusal::Charge => 7,
-        Refusal::Nesting => 8,
-        Refusal::Spelling => 9,
-        Refusal::Stack => 10,
-        Refusal::Leftover => 11,
-        Refusal::Output => 12,
-    }
+    calls::check_stopped(text, Final::Type, ceiling, k, workspace, out)
 }

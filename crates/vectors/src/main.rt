@@ -68,7 +68,7 @@ fn put_answer(a: Answer) -> usize {
             n
         }
         Answer::Refused(r, place) => {
-            put_values(swift_demangle::number(r), place, 0, 0, 0, 0);
+            put_values(values::number(r), place, 0, 0, 0, 0);
             0
         }
     }
@@ -268,25 +268,10 @@ fn run_line(line: &[u8], ws: &mut [u32], bytes: &mut [u8], numbers: &mut [u32], 
     io::write_all(1, b"\n");
 }
 
-// The end of the line that begins at from.
-fn line_end(all: &[u8], from: usize) -> usize
-    requires { ⌜ from ≤ length (now all) ⌝ }
-    ensures { λ r. ⌜ (from ≤ r) × (r ≤ length (now (all .entry))) ⌝ }
-{
-    let mut at = from;
-    while at < all.len() {
-        if all[at] == b'\n' {
-            return at;
-        }
-        at += 1;
-    }
-    at
-}
-
 fn run_lines(all: &[u8], ws: &mut [u32], bytes: &mut [u8], numbers: &mut [u32], text: &mut [u8]) {
     let mut at = 0;
     while at < all.len() {
-        let end = line_end(all, at);
+        let end = line_ends::line_end(all, at);
         run_line(&all[at..end], ws, bytes, numbers, text);
         at = end + 1;
     }

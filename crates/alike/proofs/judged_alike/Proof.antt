@@ -1,5 +1,6 @@
 use mathlib.Core.Path.{sym, _∙_}
-use Rattle.alike.proofs.Judging.{is-false, is-true, first-fails, second-fails, third-fails, fourth-decides, type-whole-at, symbol-stopped-at, type-stopped-at}
+use Rattle.agreement.proofs.Compared.{is-false, is-true}
+use Rattle.alike.proofs.Judging.{first-fails, second-fails, third-fails, fourth-decides, type-whole-at, symbol-stopped-at, type-stopped-at}
 use lib.ListN.{length}
 use borrow.Author.Needs.{needs}
 use Rattle.alike.proofs.judged_alike.Statement.{statement}

@@ -7,7 +7,7 @@ use Rattle.alike.proofs.symbol_stopped.Statement.{statement}
 use Rattle.alike.proofs.symbol_stopped.Tie as tie
 use Rattle.alike.proofs.symbol_stopped.Reads as reads
 use Rattle.alike.proofs.symbol_stopped.Lts as lts
-use Rattle.alike.proofs.stopped_agrees.Reads as stopped-agrees-reads
+use Rattle.agreement.proofs.stopped_agrees.Reads as stopped-agrees-reads
 use Rattle.swift_demangle.proofs.demangle_stopped.Reads as demangle-stopped-reads
 use Rattle.swift_demangle.proofs.shape_stopped.Reads as shape-stopped-reads
 

@@ -4,7 +4,7 @@ use Rattle.answers.proofs.finish.Statement.{statement}
 use Rattle.answers.proofs.finish.Tie as tie
 use Rattle.answers.proofs.finish.Reads as reads
 use Rattle.answers.proofs.finish.Lts as lts
-use Rattle.answers.proofs.measured.Reads as measured-reads
+use Rattle.endings.proofs.measured.Reads as measured-reads
 use Rattle.printing.proofs.render.Reads as render-reads
 use Rattle.reading.proofs.single.Reads as single-reads
 

@@ -1,5 +1,6 @@
 use native.Mathlib.Omega.{arith}
-use Rattle.answers.proofs.Ends.{was-ran, was-stopped, ran-held, read-ran, read-stopped, body-short, suffix-is}
+use Rattle.answers.proofs.Ends.{was-ran, was-stopped, ran-held, read-ran, read-stopped}
+use Rattle.endings.proofs.Ends.{body-short, suffix-is}
 use borrow.Author.Needs.{needs}
 use Rattle.answers.proofs.read_body.Statement.{statement}
 use Rattle.answers.proofs.read_body.Tie as tie

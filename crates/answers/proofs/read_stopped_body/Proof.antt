@@ -1,11 +1,12 @@
 use native.Mathlib.Omega.{arith}
-use Rattle.answers.proofs.Ends.{was-ran, was-stopped, ran-ready, read-k-ran, read-k-stopped, body-short}
+use Rattle.answers.proofs.Ends.{was-ran, was-stopped, ran-ready, read-k-ran, read-k-stopped}
+use Rattle.endings.proofs.Ends.{body-short}
 use borrow.Author.Needs.{needs}
 use Rattle.answers.proofs.read_stopped_body.Statement.{statement}
 use Rattle.answers.proofs.read_stopped_body.Tie as tie
 use Rattle.answers.proofs.read_stopped_body.Reads as reads
 use Rattle.answers.proofs.read_stopped_body.Lts as lts
-use Rattle.answers.proofs.stacked.Reads as stacked-reads
+use Rattle.endings.proofs.stacked.Reads as stacked-reads
 use Rattle.reading.proofs.run.Reads as run-reads
 use Rattle.reading.proofs.write_stack.Reads as write-stack-reads
 

@@ -1,13 +1,13 @@
 use mathlib.Core.Path.{ap, _∙_}
 use Rattle.definition.specs.Calls.{Values}
-use Rattle.capi.specs.Six.{six}
-use Rattle.capi.proofs.SixNumbers.{scratch-told}
+use Rattle.values.specs.Six.{six}
+use Rattle.capi.proofs.Telling.{scratch-told}
 use borrow.Author.Needs.{needs}
 use Rattle.capi.proofs.swift_shape.Statement.{statement}
 use Rattle.capi.proofs.swift_shape.Tie as tie
 use Rattle.capi.proofs.swift_shape.Reads as reads
 use Rattle.capi.proofs.swift_shape.Lts as lts
-use Rattle.capi.proofs.numbers.Reads as numbers-reads
+use Rattle.values.proofs.numbers.Reads as numbers-reads
 use Rattle.swift_demangle.proofs.shape.Reads as shape-reads
 
 -- src/lib.rt:76:9

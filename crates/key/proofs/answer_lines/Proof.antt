@@ -7,7 +7,7 @@ use Rattle.key.proofs.answer_lines.Tie as tie
 use Rattle.key.proofs.answer_lines.Reads as reads
 use Rattle.key.proofs.answer_lines.Lts as lts
 use Rattle.key.proofs.answer_line.Reads as answer-line-reads
-use Rattle.lines.proofs.line_end.Reads as line-end-reads
+use Rattle.line_ends.proofs.line_end.Reads as line-end-reads
 
 abbrev Inv-loop : tie.InvT-loop
 Inv-loop all ws₀ out₀ at₀ ws out at = (length ws ≡ length ws₀) × (length out ≡ length out₀) × (at ≤ length all + 1)

@@ -1,6 +1,7 @@
 use native.Mathlib.Omega.{arith}
 use denote.Ref.{now}
-use Rattle.lines.proofs.Laws.{appends-is, line-long, line-name, line-shape}
+use Rattle.line_forms.proofs.Laws.{appends-is}
+use Rattle.lines.proofs.Laws.{line-long, line-name, line-shape}
 use borrow.Author.Needs.{needs}
 use Rattle.lines.proofs.answer_line.Statement.{statement}
 use Rattle.lines.proofs.answer_line.Tie as tie
@@ -8,7 +9,7 @@ use Rattle.lines.proofs.answer_line.Reads as reads
 use Rattle.lines.proofs.answer_line.Lts as lts
 use Rattle.lines.proofs.answer_name.Reads as answer-name-reads
 use Rattle.lines.proofs.answer_shape.Reads as answer-shape-reads
-use Rattle.lines.proofs.put_refusal.Reads as put-refusal-reads
+use Rattle.line_forms.proofs.put_refusal.Reads as put-refusal-reads
 
 -- src/lib.rt:125:9
 put-refusal-requires : tie.Need-put-refusal-requires

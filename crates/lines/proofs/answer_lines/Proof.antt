@@ -3,14 +3,14 @@ use mathlib.Core.Path.{_≡_, refl, sym, _∙_}
 use Prim.Native.Nat.{_-_, _<_, _^_}
 use native.Mathlib.Omega.{arith}
 use lib.ListN.{length}
-use Rattle.lines.specs.Lines.{line-of}
+use Rattle.line_forms.specs.Lines.{line-of}
 use Rattle.lines.proofs.Whole.{Going, going-start, going-next, answered-all, answered-full, space}
 use Rattle.lines.proofs.answer_lines.Statement.{statement}
 use Rattle.lines.proofs.answer_lines.Tie as tie
 use Rattle.lines.proofs.answer_lines.Reads as reads
 use Rattle.lines.proofs.answer_lines.Lts as lts
 use Rattle.lines.proofs.answer_line.Reads as answer-line-reads
-use Rattle.lines.proofs.line_end.Reads as line-end-reads
+use Rattle.line_ends.proofs.line_end.Reads as line-end-reads
 
 abbrev Inv-loop : tie.InvT-loop
 Inv-loop asked text ws₀ out₀ read₀ written₀ ws out read written = (length ws ≡ length ws₀) × (length ws₀ ≡ 16384) × (length out₀ < 2 ^ 63) × Going (line-of asked) text out₀ out read written

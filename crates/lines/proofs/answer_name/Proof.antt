@@ -7,10 +7,10 @@ use Rattle.lines.proofs.answer_name.Statement.{statement}
 use Rattle.lines.proofs.answer_name.Tie as tie
 use Rattle.lines.proofs.answer_name.Reads as reads
 use Rattle.lines.proofs.answer_name.Lts as lts
-use Rattle.lines.proofs.put_refusal.Reads as put-refusal-reads
+use Rattle.line_forms.proofs.put_refusal.Reads as put-refusal-reads
 use Rattle.lines.proofs.read.Reads as read-reads
 use Rattle.output.proofs.put_byte.Reads as put-byte-reads
-use Rattle.swift_demangle.proofs.number.Reads as number-reads
+use Rattle.values.proofs.number.Reads as number-reads
 
 -- src/lib.rt:74:9
 put-byte-requires : tie.Need-put-byte-requires

@@ -7,9 +7,9 @@ use Rattle.lines.proofs.answer_shape.Statement.{statement}
 use Rattle.lines.proofs.answer_shape.Tie as tie
 use Rattle.lines.proofs.answer_shape.Reads as reads
 use Rattle.lines.proofs.answer_shape.Lts as lts
-use Rattle.lines.proofs.put_counts.Reads as put-counts-reads
-use Rattle.lines.proofs.put_refusal.Reads as put-refusal-reads
-use Rattle.swift_demangle.proofs.number.Reads as number-reads
+use Rattle.line_forms.proofs.put_counts.Reads as put-counts-reads
+use Rattle.line_forms.proofs.put_refusal.Reads as put-refusal-reads
+use Rattle.values.proofs.number.Reads as number-reads
 use Rattle.swift_demangle.proofs.shape.Reads as shape-reads
 
 -- src/lib.rt:107:11

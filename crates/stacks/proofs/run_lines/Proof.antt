@@ -5,7 +5,7 @@ use Rattle.stacks.proofs.run_lines.Statement.{statement}
 use Rattle.stacks.proofs.run_lines.Tie as tie
 use Rattle.stacks.proofs.run_lines.Reads as reads
 use Rattle.stacks.proofs.run_lines.Lts as lts
-use Rattle.stacks.proofs.line_end.Reads as line-end-reads
+use Rattle.line_ends.proofs.line_end.Reads as line-end-reads
 use Rattle.stacks.proofs.run_line.Reads as run-line-reads
 
 abbrev Inv-loop : tie.InvT-loop

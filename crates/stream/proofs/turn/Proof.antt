@@ -6,7 +6,7 @@ use Rattle.stream.proofs.turn.Statement.{statement}
 use Rattle.stream.proofs.turn.Tie as tie
 use Rattle.stream.proofs.turn.Reads as reads
 use Rattle.stream.proofs.turn.Lts as lts
-use Rattle.lines.proofs.line_end.Reads as line-end-reads
+use Rattle.line_ends.proofs.line_end.Reads as line-end-reads
 use Rattle.stream.proofs.answer_rest.Reads as answer-rest-reads
 use Rattle.stream.proofs.answer_whole.Reads as answer-whole-reads
 use Rattle.stream.proofs.fill.Reads as fill-reads

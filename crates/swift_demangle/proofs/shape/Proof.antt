@@ -4,7 +4,7 @@ use Rattle.swift_demangle.proofs.shape.Statement.{statement}
 use Rattle.swift_demangle.proofs.shape.Tie as tie
 use Rattle.swift_demangle.proofs.shape.Reads as reads
 use Rattle.swift_demangle.proofs.shape.Lts as lts
-use Rattle.swift_demangle.proofs.check.Reads as check-reads
+use Rattle.calls.proofs.check.Reads as check-reads
 
 -- src/lib.rt:120:5
 check-requires : tie.Need-check-requires

@@ -4,7 +4,7 @@ use Rattle.swift_demangle.proofs.shape_stopped.Statement.{statement}
 use Rattle.swift_demangle.proofs.shape_stopped.Tie as tie
 use Rattle.swift_demangle.proofs.shape_stopped.Reads as reads
 use Rattle.swift_demangle.proofs.shape_stopped.Lts as lts
-use Rattle.swift_demangle.proofs.check_stopped.Reads as check-stopped-reads
+use Rattle.calls.proofs.check_stopped.Reads as check-stopped-reads
 
 -- src/lib.rt:166:5
 check-stopped-requires : tie.Need-check-stopped-requires

@@ -4,7 +4,7 @@ use Rattle.swift_demangle.proofs.shape_type.Statement.{statement}
 use Rattle.swift_demangle.proofs.shape_type.Tie as tie
 use Rattle.swift_demangle.proofs.shape_type.Reads as reads
 use Rattle.swift_demangle.proofs.shape_type.Lts as lts
-use Rattle.swift_demangle.proofs.check.Reads as check-reads
+use Rattle.calls.proofs.check.Reads as check-reads
 
 -- src/lib.rt:127:5
 check-requires : tie.Need-check-requires

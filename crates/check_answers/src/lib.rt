@@ -1,0 +1,64 @@
+// What the check's run comes to: the answer of a call, once the checks before the run have passed.
+ghost use mathlib.Core.Path.{_≡_};
+ghost use Prim.Native.Nat.{_*_, _≤_};
+ghost use lib.ListN.{length};
+ghost use Rattle.definition.specs.Calls as Calls;
+ghost use Rattle.definition.specs.Check as Check;
+ghost use Rattle.definition.specs.Enums as Enums;
+ghost use Rattle.endings.specs.Answers.{Answers};
+ghost use Rattle.runs.specs.Ends.{kinds-of};
+ghost use Rattle.stores.specs.Stores.{Outside};
+ghost use Rattle.symbols.specs.Symbol as Symbols;
+use checking::Ended;
+use definition::Answer;
+use definition::Refusal;
+use endings::counts;
+use endings::stacked;
+use runs::Final;
+
+// The whole check of text[start..end].
+pub fn check_body(
+    text: &[u8],
+    start: usize,
+    end: usize,
+    what: Final,
+    ceiling: usize,
+    workspace: &mut [u32],
+) -> Answer
+    requires { ⌜ (start ≤ end) × (end ≤ length (now text)) × (length (now text) ≤ 65535) × (ceiling ≤ 65536) × (8 * ceiling ≤ length (now workspace)) ⌝ }
+    ensures { λ r. ⌜ (Enums.values r ≡ Check.whole ceiling (kinds-of what) (Symbols.symbol (now (text .entry)) start end) .values) × Outside ceiling (now (workspace .entry)) (now (workspace .exit)) ⌝ }
+{
+    match checking::run(&text[start..end], 4097, workspace, ceiling) {
+        Ended::Ran(st) => {
+            if checking::single(workspace, st, what) {
+                let budget = st.budget;
+                return Answer::Accepted(counts(budget), 0);
+            }
+            Answer::Refused(Refusal::Leftover, end)
+        }
+        Ended::Stopped(r, at) => Answer::Refused(r, start + at),
+    }
+}
+
+// The check of text[start..end], stopped after k operators, and its entries.
+pub fn check_stopped_body(
+    text: &[u8],
+    start: usize,
+    end: usize,
+    ceiling: usize,
+    k: usize,
+    workspace: &mut [u32],
+    out: &mut [u32],
+) -> Answer
+    requires { ⌜ (start ≤ end) × (end ≤ length (now text)) × (length (now text) ≤ 65535) × (ceiling ≤ 65536) × (8 * ceiling ≤ length (now workspace)) ⌝ }
+    ensures { λ r. ⌜ Answers (Calls.within (length (now (out .entry))) (Check.stopped-after ceiling k (Symbols.symbol (now (text .entry)) start end))) (now (out .entry)) (now (out .exit)) r × Outside ceiling (now (workspace .entry)) (now (workspace .exit)) ⌝ }
+{
+    match checking::run(&text[start..end], k, workspace, ceiling) {
+        Ended::Ran(st) => {
+            let written = checking::write_stack(workspace, st, out);
+            let budget = st.budget;
+            stacked(budget, written)
+        }
+        Ended::Stopped(r, at) => Answer::Refused(r, start + at),
+    }
+}

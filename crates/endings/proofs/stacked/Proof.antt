@@ -1,0 +1,36 @@
+use mathlib.Core.Path.{sym, refl, subst}
+use Rattle.definition.specs.Enums.{number, values}
+use Rattle.definition.specs.Calls.{refusal}
+use Rattle.runs.specs.declared.Written.{Written}
+use Rattle.budget.specs.Spent.{budget-of}
+use Rattle.endings.specs.Answers.{Stacked}
+use Rattle.endings.proofs.Ends.{counted, stacked-numbers, stacked-past}
+use borrow.Author.Needs.{needs}
+use Rattle.endings.proofs.stacked.Statement.{statement}
+use Rattle.endings.proofs.stacked.Tie as tie
+use Rattle.endings.proofs.stacked.Reads as reads
+use Rattle.endings.proofs.stacked.Lts as lts
+use Rattle.endings.proofs.counts.Reads as counts-reads
+
+-- src/lib.rt:52:26
+enum-known-written : tie.Need-enum-known-written
+enum-known-written c = search needs
+
+-- src/lib.rt:52:49
+counts-requires : tie.Need-counts-requires
+counts-requires c κs = search needs
+
+-- src/lib.rt:53:42
+enum-told : tie.Need-enum-told
+enum-told c = search needs
+
+-- src/lib.rt:48:1
+returns : tie.Need-returns
+returns c = stacked-numbers (c .before .before .before .before .args .budget) _ (c .before .before .written .given .1) (c .counts .ensures)
+
+-- src/lib.rt:48:1
+returns-2 : tie.Need-returns-2
+returns-2 c = stacked-past (c .before .before .args .budget) _ (c .enum-told .given .1)
+
+pub stacked-spec : {M : Type 1} → statement M
+stacked-spec = tie.close (tie.spec enum-known-written counts-requires enum-told returns returns-2)

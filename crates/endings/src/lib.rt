@@ -1,0 +1,39 @@
+// What a run's end comes to, whatever ran: its counts, and 12 where a text or a stack exceeds the output slice.
+ghost use mathlib.Core.Path.{_≡_};
+ghost use Rattle.budget.specs.Spent.{budget-of};
+ghost use Rattle.endings.specs.Answers.{Measured, Stacked};
+use budget::Budget;
+use definition::Answer;
+use definition::Counts;
+use definition::Refusal;
+use runs::Written;
+
+pub fn counts(budget: Budget) -> Counts
+    ensures { λ r. ⌜ r ≡ record { steps = budget .steps; total = budget .total; wraps = budget .wraps } ⌝ }
+{
+    Counts {
+        steps: budget.steps,
+        total: budget.total,
+        wraps: budget.wraps,
+    }
+}
+
+// A text of that length, where there is room for so many bytes. 12: it exceeds them.
+pub fn measured(budget: Budget, n: usize, room: usize) -> Answer
+    ensures { λ r. ⌜ Measured (budget-of budget) n room r ⌝ }
+{
+    if room < n {
+        return Answer::Refused(Refusal::Output, 0);
+    }
+    Answer::Accepted(counts(budget), n)
+}
+
+// What a stopped run wrote. 12: the stack exceeds the slice.
+pub fn stacked(budget: Budget, written: Written) -> Answer
+    ensures { λ r. ⌜ Stacked (budget-of budget) written r ⌝ }
+{
+    match written {
+        Written::Numbers(n) => Answer::Accepted(counts(budget), n),
+        Written::Past => Answer::Refused(Refusal::Output, 0),
+    }
+}

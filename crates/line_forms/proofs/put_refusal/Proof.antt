@@ -1,0 +1,44 @@
+use native.Mathlib.Omega.{arith}
+use Rattle.line_forms.proofs.Laws.{refused-appends}
+use borrow.Author.Needs.{needs}
+use Rattle.line_forms.proofs.put_refusal.Statement.{statement}
+use Rattle.line_forms.proofs.put_refusal.Tie as tie
+use Rattle.line_forms.proofs.put_refusal.Reads as reads
+use Rattle.line_forms.proofs.put_refusal.Lts as lts
+use Rattle.line_forms.proofs.put_field.Reads as put-field-reads
+use Rattle.output.proofs.put_byte.Reads as put-byte-reads
+
+-- src/lib.rt:52:9
+put-byte-requires : tie.Need-put-byte-requires
+put-byte-requires c κs = search needs
+
+-- src/lib.rt:53:9
+put-field-requires : tie.Need-put-field-requires
+put-field-requires c κs = search needs
+
+-- src/lib.rt:54:9
+put-field-requires-2 : tie.Need-put-field-requires-2
+put-field-requires-2 c κs = search needs
+
+-- src/lib.rt:55:5
+put-byte-requires-2 : tie.Need-put-byte-requires-2
+put-byte-requires-2 c κs = search needs
+
+-- src/lib.rt:47:1
+same-length : tie.Need-same-length
+same-length c = search needs
+
+-- src/lib.rt:47:1
+returns : tie.Need-returns
+returns c = refused-appends (c .before .before .before .before .before .before .before .before .before .before .before .before .before .before .before .before .before .args .number) (c .before .before .before .before .before .before .before .before .before .before .before .before .before .before .before .before .before .args .place) (c .before .before .before .before .before .before .before .before .before .before .before .before .before .before .before .before .before .pre) (omega (arith, c .before .before .before .before .before .before .before .before .before .before .before .before .before .before .before .before .before .fits)) (omega (arith, c .before .before .before .before .before .before .before .before .before .before .before .before .before .before .before .before .before .fits)) (c .before .before .before .before .before .before .before .before .before .before .before .before .before .before .put-byte .ensures) (c .before .before .before .before .before .before .before .before .before .before .put-field .ensures) (c .before .before .before .before .before .before .put-field2 .ensures) (c .before .before .put-byte2 .ensures)
+
+pub put-refusal-spec : {M : Type 1} → statement M
+put-refusal-spec =
+    tie.close
+    (tie.spec
+    put-byte-requires
+    put-field-requires
+    put-field-requires-2
+    put-byte-requires-2
+    same-length
+    returns)

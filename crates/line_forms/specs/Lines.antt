@@ -1,0 +1,74 @@
+-- Document 01, "Program `names`": what the programs `names` and `shapes` answer, as bytes. Assumes nothing.
+use mathlib.Core.Bool.{true, false}
+use mathlib.Core.List.{List, [], _∷_, _++_}
+use Prim.Native.Nat.{ℕ}
+use lib.Dec.{eqb, leb}
+use lib.ListN.{length}
+use Rattle.definition.specs.Base.{decimal, if_then_else_}
+use Rattle.definition.specs.Text.{Text}
+use Rattle.definition.specs.Calls.{Values, Answer}
+use Rattle.definition.specs.Reading.{demangle}
+use Rattle.definition.specs.Check.{shape}
+use Rattle.line_ends.specs.Ends.{newline}
+use Rattle.line_forms.specs.declared.Asked.{Asked}
+use Rattle.line_forms.specs.declared.Asked.the-variants as Asked
+
+-- ONE LINE
+-- a tab and a number
+unfoldable pub field : ℕ → List ℕ
+field n = 9 ∷ decimal n
+
+-- `!`, tab, number, tab, place
+unfoldable pub refused-line : (number place : ℕ) → List ℕ
+refused-line n p = 33 ∷ (field n ++ field p ++ (newline ∷ []))
+
+-- `=` and what is told of an accepted text
+unfoldable pub accepted-line : (told : List ℕ) → List ℕ
+accepted-line told = 61 ∷ (told ++ (newline ∷ []))
+
+unfoldable pub line-answer : Values → (told : List ℕ) → List ℕ
+line-answer v told = if eqb (v .number) 0 then accepted-line told else refused-line (v .number) (v .place)
+
+-- tab, text
+unfoldable pub name-answer : Answer → List ℕ
+name-answer a = line-answer (a .values) (9 ∷ a .written)
+
+-- tab, steps, tab, total, tab, wraps
+unfoldable pub counts-told : (steps total wraps : ℕ) → List ℕ
+counts-told s t w = field s ++ field t ++ field w
+
+unfoldable pub shape-answer : Values → List ℕ
+shape-answer v = line-answer v (counts-told (v .steps) (v .total) (v .wraps))
+
+-- up to 4,096 bytes are read; a longer line is answered as 3 at 0
+unfoldable pub read-line : Text → List ℕ → List ℕ
+read-line t answer = if leb (length t) 4096 then answer else refused-line 3 0
+
+-- the ceiling is 256, with 64 × 256 numbers of workspace and an output slice of 16,384 bytes
+unfoldable pub name-line : Text → List ℕ
+name-line t = read-line t (name-answer (demangle t 256 16384 16384))
+
+unfoldable pub shape-line : Text → List ℕ
+shape-line t = read-line t (shape-answer (shape t 256 16384 .values))
+
+-- what a program is asked of each line
+abbrev pub line-of : Asked → Text → List ℕ
+line-of Asked.Name t = name-line t
+line-of Asked.Shape t = shape-line t
+
+-- A WHOLE INPUT
+-- a last line needs no newline, and a final newline begins no further line
+unfoldable pub last-answer : (Text → List ℕ) → Text → List ℕ
+last-answer line [] = []
+last-answer line (c ∷ t) = line (c ∷ t)
+
+-- each line's answer, in order; `begun` is what the line has so far
+unfoldable pub answers-from : (Text → List ℕ) → (begun : Text) → Text → List ℕ
+answers-from line begun [] = last-answer line begun
+answers-from line begun (c ∷ t) = elim (eqb c newline) [
+  | true ↦ line begun ++ answers-from line [] t
+  | false ↦ answers-from line (begun ++ (c ∷ [])) t
+]
+
+unfoldable pub answers : (Text → List ℕ) → Text → List ℕ
+answers line t = answers-from line [] t
