@@ -36,7 +36,9 @@ fn finish(
     match reading::single(ws, ceiling, st, what) {
         Left::At(p) => {
             let room = out.len();
-            let n = printing::render(out, ws, body, words, p, suffix);
+            let starts = words.starts;
+            let lengths = words.lengths;
+            let n = printing::render(out, ws, body, &starts, &lengths, words.count, p, suffix);
             let budget = st.budget;
             measured(budget, n, room)
         }

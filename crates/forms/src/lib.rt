@@ -2,6 +2,7 @@
 ghost use mathlib.Core.Path.{_≡_};
 ghost use mathlib.Core.Bool.{false};
 ghost use Prim.Native.Nat.{_+_, _<_};
+ghost use Rattle.words.specs.Table.{lent};
 ghost use Rattle.records.specs.Lies.{at as field-of};
 ghost use Rattle.naming.specs.Naming.{naming, Some, Alone};
 ghost use Rattle.shown_labels.specs.Pieces.{World, Prints, zero-or, record-form};
@@ -9,14 +10,22 @@ ghost use Rattle.forms.specs.Forms.{Standard, Sugars, FormIs, Rowed};
 use naming::named_is;
 use records::field;
 use shown_labels::get;
-use words::Words;
 
 // Whether the base at place p is the standard type of a name: a nominal type of that name in a module named Swift.
-fn standard(ws: &[u32], text: &[u8], w: Words, p: usize, n: usize, name: &[u8]) -> bool
-    requires { ⌜ World (now text) w (now ws) p ⌝ }
-    requires { ⌜ Some (Prints (naming (now text) w) (now ws) p) ⌝ }
+fn standard(
+    ws: &[u32],
+    text: &[u8],
+    starts: &[u16; 26],
+    lengths: &[u16; 26],
+    known: usize,
+    p: usize,
+    n: usize,
+    name: &[u8],
+) -> bool
+    requires { ⌜ World (now text) (lent (now starts) (now lengths) known) (now ws) p ⌝ }
+    requires { ⌜ Some (Prints (naming (now text) (lent (now starts) (now lengths) known)) (now ws) p) ⌝ }
     requires { ⌜ Alone n (now name) ⌝ }
-    ensures { λ r. ⌜ Standard (naming (now (text .entry)) w) (now (ws .entry)) p (now (name .entry)) r ⌝ }
+    ensures { λ r. ⌜ Standard (naming (now (text .entry)) (lent (now (starts .entry)) (now (lengths .entry)) known)) (now (ws .entry)) p (now (name .entry)) r ⌝ }
 {
     let kind = get(ws, p, 0);
     if kind < 2 {
@@ -26,7 +35,7 @@ fn standard(ws: &[u32], text: &[u8], w: Words, p: usize, n: usize, name: &[u8]) 
         return false;
     }
     let own = get(ws, p, 3);
-    if !named_is(text, w, own, n, name) {
+    if !named_is(text, starts, lengths, known, own, n, name) {
         return false;
     }
     let context = get(ws, p, 4);
@@ -35,29 +44,36 @@ fn standard(ws: &[u32], text: &[u8], w: Words, p: usize, n: usize, name: &[u8]) 
         return false;
     }
     let module = get(ws, context, 3);
-    named_is(text, w, module, 0, b"Swift")
+    named_is(text, starts, lengths, known, module, 0, b"Swift")
 }
 
 // The sugar of the generic type at place p: 0 none, 1 that of Optional, 2 of Array, 3 of Dictionary.
-fn sugar(ws: &[u32], text: &[u8], w: Words, p: usize) -> usize
-    requires { ⌜ World (now text) w (now ws) p ⌝ }
-    requires { ⌜ Some (Prints (naming (now text) w) (now ws) p) ⌝ }
+fn sugar(
+    ws: &[u32],
+    text: &[u8],
+    starts: &[u16; 26],
+    lengths: &[u16; 26],
+    known: usize,
+    p: usize,
+) -> usize
+    requires { ⌜ World (now text) (lent (now starts) (now lengths) known) (now ws) p ⌝ }
+    requires { ⌜ Some (Prints (naming (now text) (lent (now starts) (now lengths) known)) (now ws) p) ⌝ }
     requires { ⌜ field-of (now ws) p 0 ≡ 18 ⌝ }
-    ensures { λ r. ⌜ Sugars (naming (now (text .entry)) w) (now (ws .entry)) p r ⌝ }
+    ensures { λ r. ⌜ Sugars (naming (now (text .entry)) (lent (now (starts .entry)) (now (lengths .entry)) known)) (now (ws .entry)) p r ⌝ }
 {
     let base = get(ws, p, 3);
     let count = get(ws, p, 4);
     if count == 1 {
-        if standard(ws, text, w, base, 28, b"Optional") {
+        if standard(ws, text, starts, lengths, known, base, 28, b"Optional") {
             return 1;
         }
-        if standard(ws, text, w, base, 4, b"Array") {
+        if standard(ws, text, starts, lengths, known, base, 4, b"Array") {
             return 2;
         }
         return 0;
     }
     if count == 2 {
-        if standard(ws, text, w, base, 7, b"Dictionary") {
+        if standard(ws, text, starts, lengths, known, base, 7, b"Dictionary") {
             return 3;
         }
         return 0;
@@ -89,10 +105,17 @@ fn record_form(form: usize) -> usize
 }
 
 // The form of the record at place p: its kind, or a number above the kinds.
-fn form(ws: &[u32], text: &[u8], w: Words, p: usize) -> usize
-    requires { ⌜ World (now text) w (now ws) p ⌝ }
-    requires { ⌜ Some (Prints (naming (now text) w) (now ws) p) ⌝ }
-    ensures { λ r. ⌜ FormIs (naming (now (text .entry)) w) (now (ws .entry)) p r ⌝ }
+fn form(
+    ws: &[u32],
+    text: &[u8],
+    starts: &[u16; 26],
+    lengths: &[u16; 26],
+    known: usize,
+    p: usize,
+) -> usize
+    requires { ⌜ World (now text) (lent (now starts) (now lengths) known) (now ws) p ⌝ }
+    requires { ⌜ Some (Prints (naming (now text) (lent (now starts) (now lengths) known)) (now ws) p) ⌝ }
+    ensures { λ r. ⌜ FormIs (naming (now (text .entry)) (lent (now (starts .entry)) (now (lengths .entry)) known)) (now (ws .entry)) p r ⌝ }
 {
     let kind = get(ws, p, 0);
     if kind == 12 {
@@ -104,7 +127,7 @@ fn form(ws: &[u32], text: &[u8], w: Words, p: usize) -> usize
         return zero_or(members, 15, 41);
     }
     if kind == 18 {
-        let s = sugar(ws, text, w, p);
+        let s = sugar(ws, text, starts, lengths, known, p);
         return zero_or(s, 18, 41 + s);
     }
     if kind == 21 {
@@ -217,11 +240,18 @@ const ROWS: [usize; 46] = [
 ];
 
 // The row of the record at place p.
-pub fn row_of(ws: &[u32], text: &[u8], w: Words, p: usize) -> usize
-    requires { ⌜ World (now text) w (now ws) p ⌝ }
-    requires { ⌜ Some (Prints (naming (now text) w) (now ws) p) ⌝ }
-    ensures { λ r. ⌜ Rowed (naming (now (text .entry)) w) (now (ws .entry)) p r ⌝ }
+pub fn row_of(
+    ws: &[u32],
+    text: &[u8],
+    starts: &[u16; 26],
+    lengths: &[u16; 26],
+    known: usize,
+    p: usize,
+) -> usize
+    requires { ⌜ World (now text) (lent (now starts) (now lengths) known) (now ws) p ⌝ }
+    requires { ⌜ Some (Prints (naming (now text) (lent (now starts) (now lengths) known)) (now ws) p) ⌝ }
+    ensures { λ r. ⌜ Rowed (naming (now (text .entry)) (lent (now (starts .entry)) (now (lengths .entry)) known)) (now (ws .entry)) p r ⌝ }
 {
-    let f = form(ws, text, w, p);
+    let f = form(ws, text, starts, lengths, known, p);
     ROWS[f]
 }

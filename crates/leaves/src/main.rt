@@ -127,9 +127,11 @@ fn show_first(bytes: &[u8], n: usize) {
 fn show_name(out: &mut [u8], text: &[u8], at: usize, w: Words)
     requires { ⌜ (at ≤ length (now text)) × (length (now text) ≤ 65535) × Fitting (now text) w ⌝ }
 {
-    put(spelling::name_length(text, at, w));
+    let starts = w.starts;
+    let lengths = w.lengths;
+    put(spelling::name_length(text, at, &starts, &lengths, w.count));
     let room = out.len();
-    let end = spelling::put_name(out, 0, room, text, at, w);
+    let end = spelling::put_name(out, 0, room, text, at, &starts, &lengths, w.count);
     io::write_all(1, b"[");
     show_first(out, end);
     io::write_all(1, b"]");

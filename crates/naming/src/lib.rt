@@ -9,6 +9,7 @@ ghost use Rattle.definition.specs.Print.{join, param-names, effects};
 ghost use Rattle.fixed_names.specs.Fixed.{fixed, numbered};
 ghost use Rattle.fixed_names.specs.Words.{words, count, spelt};
 ghost use Rattle.output.specs.Sink.{Room, Wrote};
+ghost use Rattle.words.specs.Table.{lent};
 ghost use Rattle.records.specs.Holds.{Named};
 ghost use Rattle.naming.specs.Texts.{text-of, sep-before};
 ghost use Rattle.naming.specs.Naming.{naming, Known, Puts, Some, Alone};
@@ -20,7 +21,6 @@ use output::store_low;
 use output::store_word;
 use spelling::name_is;
 use spelling::put_name;
-use words::Words;
 
 // Stores the first len bytes of the words from first on.
 fn store_words(out: &mut [u8], at: usize, first: usize, len: usize)
@@ -145,27 +145,44 @@ pub fn put_fixed(out: &mut [u8], at: usize, room: usize, n: usize) -> usize
 }
 
 // Appends the name that the number k stands for: the identifier at that offset of the text, or from 65,536 on a fixed name.
-pub fn put_named(out: &mut [u8], at: usize, room: usize, text: &[u8], w: Words, k: usize) -> usize
+pub fn put_named(
+    out: &mut [u8],
+    at: usize,
+    room: usize,
+    text: &[u8],
+    starts: &[u16; 26],
+    lengths: &[u16; 26],
+    known: usize,
+    k: usize,
+) -> usize
     requires { ⌜ Room room (now out) at ⌝ }
-    requires { ⌜ Known (now text) w ⌝ }
-    requires { ⌜ Some (Named (naming (now text) w) k) ⌝ }
-    ensures { λ r. ⌜ Puts (Named (naming (now (text .entry)) w) k) room (now (out .entry)) (now (out .exit)) at r ⌝ }
+    requires { ⌜ Known (now text) (lent (now starts) (now lengths) known) ⌝ }
+    requires { ⌜ Some (Named (naming (now text) (lent (now starts) (now lengths) known)) k) ⌝ }
+    ensures { λ r. ⌜ Puts (Named (naming (now (text .entry)) (lent (now (starts .entry)) (now (lengths .entry)) known)) k) room (now (out .entry)) (now (out .exit)) at r ⌝ }
 {
     if k < 65536 {
-        return put_name(out, at, room, text, k, w);
+        return put_name(out, at, room, text, k, starts, lengths, known);
     }
     put_fixed(out, at, room, k - 65536)
 }
 
 // Whether the name that the number k stands for is the fixed name of the number n, whose bytes are given too.
-pub fn named_is(text: &[u8], w: Words, k: usize, n: usize, fixed: &[u8]) -> bool
-    requires { ⌜ Known (now text) w ⌝ }
-    requires { ⌜ Some (Named (naming (now text) w) k) ⌝ }
+pub fn named_is(
+    text: &[u8],
+    starts: &[u16; 26],
+    lengths: &[u16; 26],
+    known: usize,
+    k: usize,
+    n: usize,
+    fixed: &[u8],
+) -> bool
+    requires { ⌜ Known (now text) (lent (now starts) (now lengths) known) ⌝ }
+    requires { ⌜ Some (Named (naming (now text) (lent (now starts) (now lengths) known)) k) ⌝ }
     requires { ⌜ Alone n (now fixed) ⌝ }
-    ensures { λ r. ⌜ ((name : Name) → Named (naming (now (text .entry)) w) k name → r ≡ same name (now (fixed .entry))) ⌝ }
+    ensures { λ r. ⌜ ((name : Name) → Named (naming (now (text .entry)) (lent (now (starts .entry)) (now (lengths .entry)) known)) k name → r ≡ same name (now (fixed .entry))) ⌝ }
 {
     if k < 65536 {
-        return name_is(text, k, w, fixed);
+        return name_is(text, k, starts, lengths, known, fixed);
     }
     k - 65536 == n
 }

@@ -55,17 +55,16 @@ module _ (text : Text) (w : Words) (i : ℕ) (next : Speller) where
       let k : length (table text w) ≤ i = omega (arith, words-length text (w .starts) (w .lengths) (w .count)) in
       ap (λ (o : Option Name). of-word o (next .more) (drop (next .at) text)) (found-none (table text w) i k)
 
-  pub the-word : i < w .count → Fitting text w → next .at ≤ length text →
-      Taken (of-word (getElem? (table text w) i) (next .more) (drop (next .at) text)) text (next .at) (next .punycoded) (getD (w .starts) i 0) (getD (w .starts) i 0 + getD (w .lengths) i 0) next
-  the-word h g l =
-      let from = getD (w .starts) i 0 in
-      let len = getD (w .lengths) i 0 in
-      let z : len ≡ (from + len) - from = omega arith in
+  pub the-word : {from len : ℕ} → from ≡ getD (w .starts) i 0 → len ≡ getD (w .lengths) i 0 → i < w .count → Fitting text w → next .at ≤ length text →
+      Taken (of-word (getElem? (table text w) i) (next .more) (drop (next .at) text)) text (next .at) (next .punycoded) from (from + len) next
+  the-word {from} {len} a b h g l =
+      let z : getD (w .lengths) i 0 ≡ (from + len) - from = omega arith in
       record {
-        is = ap (λ (o : Option Name). of-word o (next .more) (drop (next .at) text)) (words-at text (w .starts) (w .lengths) (w .count) i h) ∙ ap (λ (m : ℕ). piece (take m (drop from text)) (next .more) (drop (next .at) text)) z;
+        is = ap (λ (o : Option Name). of-word o (next .more) (drop (next .at) text)) (words-at text (w .starts) (w .lengths) (w .count) i h)
+            ∙ ap (λ (m : ℕ). piece (take m (drop (getD (w .starts) i 0) text)) (next .more) (drop (next .at) text)) z ∙ ap (λ (f : ℕ). piece (take ((from + len) - from) (drop f text)) (next .more) (drop (next .at) text)) (sym a);
         kept = refl;
         order = omega arith;
-        inside = g .inside i h;
+        inside = omega (arith, g .inside i h);
         onward = omega arith;
         within = l;
       }

@@ -1,8 +1,9 @@
 // The pieces of an identifier, one after another, by the table of words.
-ghost use Prim.Native.Nat.{_+_, _≤_};
+ghost use mathlib.Core.Path.{_≡_};
+ghost use Prim.Native.Nat.{_+_, _≤_, _<_};
 ghost use lib.ListN.{length, drop, getElem?};
 ghost use Rattle.definition.specs.Text.{Text};
-ghost use Rattle.words.specs.Table.{table, Fitting};
+ghost use Rattle.words.specs.Table.{table, Fitting, lent};
 ghost use Rattle.pieces.specs.Pieces as P;
 ghost use Rattle.pieces.specs.Answers.{Begun, PieceIs, Passed};
 use letters::is_lower;
@@ -11,7 +12,6 @@ use text::Cursor;
 use text::Number;
 use text::natural;
 use text::next_if;
-use words::Words;
 
 // A cursor into an identifier: whether words by letter may come, and whether it is punycode.
 pub struct Speller {
@@ -51,19 +51,22 @@ pub fn first(text: &[u8], p: usize) -> Speller
     }
 }
 
-// The word that a letter stands for, with the cursor behind the letter.
-fn word(w: Words, i: usize, next: Speller) -> Piece
-    requires { ⌜ w .count ≤ 26 ⌝ }
-    ensures { λ r. ⌜ ((text : Text) → Fitting text w → next .at ≤ length text → PieceIs (P.of-word (getElem? (table text w) i) (next .more) (drop (next .at) text)) text (next .at) (next .punycoded) r) ⌝ }
+fn wide(x: u16) -> usize
+    ensures { λ r. ⌜ (r ≡ x) × (r < 65536) ⌝ }
 {
-    let count = w.count;
-    if count <= i {
+    x as usize
+}
+
+// The word that a letter stands for, with the cursor behind the letter.
+fn word(starts: &[u16; 26], lengths: &[u16; 26], known: usize, i: usize, next: Speller) -> Piece
+    requires { ⌜ known ≤ 26 ⌝ }
+    ensures { λ r. ⌜ ((text : Text) → Fitting text (lent (now (starts .entry)) (now (lengths .entry)) known) → next .at ≤ length text → PieceIs (P.of-word (getElem? (table text (lent (now (starts .entry)) (now (lengths .entry)) known)) i) (next .more) (drop (next .at) text)) text (next .at) (next .punycoded) r) ⌝ }
+{
+    if known <= i {
         return Piece::End;
     }
-    let starts = w.starts;
-    let lengths = w.lengths;
-    let from = starts[i] as usize;
-    let to = from + lengths[i] as usize;
+    let from = wide(starts[i]);
+    let to = from + wide(lengths[i]);
     Piece::Part(from, to, next)
 }
 
@@ -128,9 +131,15 @@ fn literal(text: &[u8], at: usize, more: bool, punycoded: bool) -> Piece
 }
 
 // The piece at the cursor.
-pub fn next_piece(text: &[u8], w: Words, s: Speller) -> Piece
-    requires { ⌜ (s .at ≤ length (now text)) × Fitting (now text) w ⌝ }
-    ensures { λ r. ⌜ PieceIs (P.piece-of (table (now (text .entry)) w) (s .more) (s .punycoded) (drop (s .at) (now (text .entry)))) (now (text .entry)) (s .at + 1) (s .punycoded) r ⌝ }
+pub fn next_piece(
+    text: &[u8],
+    starts: &[u16; 26],
+    lengths: &[u16; 26],
+    known: usize,
+    s: Speller,
+) -> Piece
+    requires { ⌜ (s .at ≤ length (now text)) × Fitting (now text) (lent (now starts) (now lengths) known) ⌝ }
+    ensures { λ r. ⌜ PieceIs (P.piece-of (table (now (text .entry)) (lent (now (starts .entry)) (now (lengths .entry)) known)) (s .more) (s .punycoded) (drop (s .at) (now (text .entry)))) (now (text .entry)) (s .at + 1) (s .punycoded) r ⌝ }
 {
     let at = s.at;
     let more = s.more;
@@ -140,7 +149,9 @@ pub fn next_piece(text: &[u8], w: Words, s: Speller) -> Piece
             let b = text[at];
             if is_lower(b) {
                 return word(
-                    w,
+                    starts,
+                    lengths,
+                    known,
                     (b - 97) as usize,
                     Speller {
                         at: at + 1,
@@ -151,7 +162,9 @@ pub fn next_piece(text: &[u8], w: Words, s: Speller) -> Piece
             }
             if is_upper(b) {
                 return word(
-                    w,
+                    starts,
+                    lengths,
+                    known,
                     (b - 65) as usize,
                     Speller {
                         at: at + 1,

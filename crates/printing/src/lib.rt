@@ -7,6 +7,7 @@ ghost use mathlib.Core.Bool.{true, false};
 ghost use Prim.Native.Nat.{_+_, _*_, _≤_, _<_, _^_};
 ghost use lib.ListN.{length};
 ghost use Rattle.output.specs.Sink.{Room, Wrote};
+ghost use Rattle.words.specs.Table.{lent};
 ghost use Rattle.records.specs.Lies.{at as field-of};
 ghost use Rattle.naming.specs.Naming.{naming, Puts, Some};
 ghost use Rattle.shown_labels.specs.Pieces.{World, Reach, Prints, params-way, behind-way, signed-way, Printing, Listed, Celled, leaf-text, list-field, list-sep, list-shown, list-count, init-name, Plain, Piece};
@@ -29,7 +30,6 @@ use shown_labels::next_labels;
 use shown_labels::no_labels;
 use shown_labels::own_label;
 use shown_labels::put_label;
-use words::Words;
 
 // A list's cells: so many, the first at the place in that field; the text between them by its number; whether labels are shown.
 struct ListForm {
@@ -167,21 +167,23 @@ pub fn print(
     room: usize,
     ws: &[u32],
     text: &[u8],
-    w: Words,
+    starts: &[u16; 26],
+    lengths: &[u16; 26],
+    known: usize,
     p: usize,
 ) -> usize
     requires { ⌜ Room room (now out) at ⌝ }
-    requires { ⌜ World (now text) w (now ws) p ⌝ }
-    requires { ⌜ Some (Prints (naming (now text) w) (now ws) p) ⌝ }
-    ensures { λ r. ⌜ Puts (Prints (naming (now (text .entry)) w) (now (ws .entry)) p) room (now (out .entry)) (now (out .exit)) at r ⌝ }
+    requires { ⌜ World (now text) (lent (now starts) (now lengths) known) (now ws) p ⌝ }
+    requires { ⌜ Some (Prints (naming (now text) (lent (now starts) (now lengths) known)) (now ws) p) ⌝ }
+    ensures { λ r. ⌜ Puts (Prints (naming (now (text .entry)) (lent (now (starts .entry)) (now (lengths .entry)) known)) (now (ws .entry)) p) room (now (out .entry)) (now (out .exit)) at r ⌝ }
 {
-    let mut row = row_of(ws, text, w, p);
+    let mut row = row_of(ws, text, starts, lengths, known, p);
     let mut r = at;
     while row != 0 {
         if room < r {
             return r;
         }
-        r = print_piece(out, r, room, ws, text, w, p, row % 256);
+        r = print_piece(out, r, room, ws, text, starts, lengths, known, p, row % 256);
         row = row / 256;
     }
     r
@@ -194,20 +196,33 @@ fn print_piece(
     room: usize,
     ws: &[u32],
     text: &[u8],
-    w: Words,
+    starts: &[u16; 26],
+    lengths: &[u16; 26],
+    known: usize,
     p: usize,
     code: usize,
 ) -> usize
     requires { ⌜ Room room (now out) at ⌝ }
-    requires { ⌜ World (now text) w (now ws) p ⌝ }
-    requires { ⌜ Some (Piece (naming (now text) w) (now ws) p code) ⌝ }
-    ensures { λ r. ⌜ Puts (Piece (naming (now (text .entry)) w) (now (ws .entry)) p code) room (now (out .entry)) (now (out .exit)) at r ⌝ }
+    requires { ⌜ World (now text) (lent (now starts) (now lengths) known) (now ws) p ⌝ }
+    requires { ⌜ Some (Piece (naming (now text) (lent (now starts) (now lengths) known)) (now ws) p code) ⌝ }
+    ensures { λ r. ⌜ Puts (Piece (naming (now (text .entry)) (lent (now (starts .entry)) (now (lengths .entry)) known)) (now (ws .entry)) p code) room (now (out .entry)) (now (out .exit)) at r ⌝ }
 {
     if code < 128 {
-        return print_plain(out, at, room, ws, text, w, p, code);
+        return print_plain(out, at, room, ws, text, starts, lengths, known, p, code);
     }
     let q = get(ws, p, 4);
-    print_plain(out, at, room, ws, text, w, q, code - 128)
+    print_plain(
+        out,
+        at,
+        room,
+        ws,
+        text,
+        starts,
+        lengths,
+        known,
+        q,
+        code - 128,
+    )
 }
 
 // Appends a piece of the record at place p.
@@ -217,25 +232,27 @@ fn print_plain(
     room: usize,
     ws: &[u32],
     text: &[u8],
-    w: Words,
+    starts: &[u16; 26],
+    lengths: &[u16; 26],
+    known: usize,
     p: usize,
     code: usize,
 ) -> usize
     requires { ⌜ Room room (now out) at ⌝ }
-    requires { ⌜ World (now text) w (now ws) p ⌝ }
-    requires { ⌜ Some (Plain (naming (now text) w) (now ws) p code) ⌝ }
-    ensures { λ r. ⌜ Puts (Plain (naming (now (text .entry)) w) (now (ws .entry)) p code) room (now (out .entry)) (now (out .exit)) at r ⌝ }
+    requires { ⌜ World (now text) (lent (now starts) (now lengths) known) (now ws) p ⌝ }
+    requires { ⌜ Some (Plain (naming (now text) (lent (now starts) (now lengths) known)) (now ws) p code) ⌝ }
+    ensures { λ r. ⌜ Puts (Plain (naming (now (text .entry)) (lent (now (starts .entry)) (now (lengths .entry)) known)) (now (ws .entry)) p code) room (now (out .entry)) (now (out .exit)) at r ⌝ }
 {
     if 64 <= code {
         return put_text(out, at, room, code - 64);
     }
     if code < 16 {
         let k = get(ws, p, code - 8);
-        return put_named(out, at, room, text, w, k);
+        return put_named(out, at, room, text, starts, lengths, known, k);
     }
     if code < 24 {
         let q = get(ws, p, code - 16);
-        return print(out, at, room, ws, text, w, q);
+        return print(out, at, room, ws, text, starts, lengths, known, q);
     }
     if code < 32 {
         return put_leaf(out, at, room, ws, p, code);
@@ -243,16 +260,16 @@ fn print_plain(
     if code < 40 {
         let f = list_form(ws, p, code);
         let l = no_labels(p);
-        return print_cells(out, at, room, ws, text, w, p, f, l);
+        return print_cells(out, at, room, ws, text, starts, lengths, known, p, f, l);
     }
     if code == 40 {
         let l = labels_of(ws, p);
         let q = get(ws, p, 5);
-        return print_signed(out, at, room, ws, text, w, q, l);
+        return print_signed(out, at, room, ws, text, starts, lengths, known, q, l);
     }
     let l = no_labels(p);
     let q = get(ws, p, 3);
-    print_params(out, at, room, ws, text, w, q, l)
+    print_params(out, at, room, ws, text, starts, lengths, known, q, l)
 }
 
 // Appends the elements of a list, whose cells begin at the place in a field of the record at place p.
@@ -262,17 +279,19 @@ fn print_cells(
     room: usize,
     ws: &[u32],
     text: &[u8],
-    w: Words,
+    starts: &[u16; 26],
+    lengths: &[u16; 26],
+    known: usize,
     p: usize,
     f: ListForm,
     l: Labels,
 ) -> usize
     requires { ⌜ Room room (now out) at ⌝ }
-    requires { ⌜ World (now text) w (now ws) p ⌝ }
+    requires { ⌜ World (now text) (lent (now starts) (now lengths) known) (now ws) p ⌝ }
     requires { ⌜ (f .field < 8) × (f .sep < 37) × (f .count < 2 ^ 32) ⌝ }
     requires { ⌜ Reach (now ws) l ⌝ }
-    requires { ⌜ Some (Listed (naming (now text) w) (now ws) p (f .field) (f .count) 0 (f .sep) (f .shown) l) ⌝ }
-    ensures { λ r. ⌜ Puts (Listed (naming (now (text .entry)) w) (now (ws .entry)) p (f .field) (f .count) 0 (f .sep) (f .shown) l) room (now (out .entry)) (now (out .exit)) at r ⌝ }
+    requires { ⌜ Some (Listed (naming (now text) (lent (now starts) (now lengths) known)) (now ws) p (f .field) (f .count) 0 (f .sep) (f .shown) l) ⌝ }
+    ensures { λ r. ⌜ Puts (Listed (naming (now (text .entry)) (lent (now (starts .entry)) (now (lengths .entry)) known)) (now (ws .entry)) p (f .field) (f .count) 0 (f .sep) (f .shown) l) room (now (out .entry)) (now (out .exit)) at r ⌝ }
 {
     let count = f.count;
     let sep = f.sep;
@@ -287,7 +306,21 @@ fn print_cells(
             return r;
         }
         let cell = get(ws, host, k);
-        r = print_cell(out, r, room, ws, text, w, cell, i, sep, shown, labels);
+        r = print_cell(
+            out,
+            r,
+            room,
+            ws,
+            text,
+            starts,
+            lengths,
+            known,
+            cell,
+            i,
+            sep,
+            shown,
+            labels,
+        );
         labels = next_labels(ws, labels);
         host = cell;
         k = 5;
@@ -303,7 +336,9 @@ fn print_cell(
     room: usize,
     ws: &[u32],
     text: &[u8],
-    w: Words,
+    starts: &[u16; 26],
+    lengths: &[u16; 26],
+    known: usize,
     p: usize,
     i: usize,
     sep: usize,
@@ -311,17 +346,17 @@ fn print_cell(
     l: Labels,
 ) -> usize
     requires { ⌜ Room room (now out) at ⌝ }
-    requires { ⌜ World (now text) w (now ws) p ⌝ }
+    requires { ⌜ World (now text) (lent (now starts) (now lengths) known) (now ws) p ⌝ }
     requires { ⌜ sep < 37 ⌝ }
     requires { ⌜ Reach (now ws) l ⌝ }
-    requires { ⌜ Some (Celled (naming (now text) w) (now ws) p i sep shown l) ⌝ }
-    ensures { λ r. ⌜ Puts (Celled (naming (now (text .entry)) w) (now (ws .entry)) p i sep shown l) room (now (out .entry)) (now (out .exit)) at r ⌝ }
+    requires { ⌜ Some (Celled (naming (now text) (lent (now starts) (now lengths) known)) (now ws) p i sep shown l) ⌝ }
+    ensures { λ r. ⌜ Puts (Celled (naming (now (text .entry)) (lent (now (starts .entry)) (now (lengths .entry)) known)) (now (ws .entry)) p i sep shown l) room (now (out .entry)) (now (out .exit)) at r ⌝ }
 {
     let r = put_sep(out, at, room, i, sep);
     let own = own_label(ws, p, shown);
-    let s = put_label(out, r, room, ws, text, w, own, l);
+    let s = put_label(out, r, room, ws, text, starts, lengths, known, own, l);
     let q = get(ws, p, 4);
-    print(out, s, room, ws, text, w, q)
+    print(out, s, room, ws, text, starts, lengths, known, q)
 }
 
 // Appends a function's parameters in parentheses, with its labels.
@@ -331,15 +366,17 @@ fn print_params(
     room: usize,
     ws: &[u32],
     text: &[u8],
-    w: Words,
+    starts: &[u16; 26],
+    lengths: &[u16; 26],
+    known: usize,
     p: usize,
     l: Labels,
 ) -> usize
     requires { ⌜ Room room (now out) at ⌝ }
-    requires { ⌜ World (now text) w (now ws) p ⌝ }
+    requires { ⌜ World (now text) (lent (now starts) (now lengths) known) (now ws) p ⌝ }
     requires { ⌜ Reach (now ws) l ⌝ }
-    requires { ⌜ Some (Printing params-way (naming (now text) w) (now ws) p l) ⌝ }
-    ensures { λ r. ⌜ Puts (Printing params-way (naming (now (text .entry)) w) (now (ws .entry)) p l) room (now (out .entry)) (now (out .exit)) at r ⌝ }
+    requires { ⌜ Some (Printing params-way (naming (now text) (lent (now starts) (now lengths) known)) (now ws) p l) ⌝ }
+    ensures { λ r. ⌜ Puts (Printing params-way (naming (now (text .entry)) (lent (now (starts .entry)) (now (lengths .entry)) known)) (now (ws .entry)) p l) room (now (out .entry)) (now (out .exit)) at r ⌝ }
 {
     let kind = get(ws, p, 0);
     if kind == 30 {
@@ -348,11 +385,22 @@ fn print_params(
     let r = put_text(out, at, room, 6);
     if kind == 9 {
         let f = list_form(ws, p, 32);
-        let s = print_cells(out, r, room, ws, text, w, p, f, l);
+        let s = print_cells(out, r, room, ws, text, starts, lengths, known, p, f, l);
         return put_text(out, s, room, 7);
     }
-    let s = put_label(out, r, room, ws, text, w, 4294967295, l);
-    let t = print(out, s, room, ws, text, w, p);
+    let s = put_label(
+        out,
+        r,
+        room,
+        ws,
+        text,
+        starts,
+        lengths,
+        known,
+        4294967295,
+        l,
+    );
+    let t = print(out, s, room, ws, text, starts, lengths, known, p);
     put_text(out, t, room, 7)
 }
 
@@ -363,24 +411,26 @@ fn print_signed(
     room: usize,
     ws: &[u32],
     text: &[u8],
-    w: Words,
+    starts: &[u16; 26],
+    lengths: &[u16; 26],
+    known: usize,
     p: usize,
     l: Labels,
 ) -> usize
     requires { ⌜ Room room (now out) at ⌝ }
-    requires { ⌜ World (now text) w (now ws) p ⌝ }
+    requires { ⌜ World (now text) (lent (now starts) (now lengths) known) (now ws) p ⌝ }
     requires { ⌜ Reach (now ws) l ⌝ }
-    requires { ⌜ Some (Printing signed-way (naming (now text) w) (now ws) p l) ⌝ }
-    ensures { λ r. ⌜ Puts (Printing signed-way (naming (now (text .entry)) w) (now (ws .entry)) p l) room (now (out .entry)) (now (out .exit)) at r ⌝ }
+    requires { ⌜ Some (Printing signed-way (naming (now text) (lent (now starts) (now lengths) known)) (now ws) p l) ⌝ }
+    ensures { λ r. ⌜ Puts (Printing signed-way (naming (now (text .entry)) (lent (now (starts .entry)) (now (lengths .entry)) known)) (now (ws .entry)) p l) room (now (out .entry)) (now (out .exit)) at r ⌝ }
 {
     let kind = get(ws, p, 0);
     if kind == 11 {
         let signature = get(ws, p, 3);
         let inner = get(ws, p, 4);
-        let r = print(out, at, room, ws, text, w, signature);
-        return print_behind(out, r, room, ws, text, w, inner, l);
+        let r = print(out, at, room, ws, text, starts, lengths, known, signature);
+        return print_behind(out, r, room, ws, text, starts, lengths, known, inner, l);
     }
-    print_behind(out, at, room, ws, text, w, p, l)
+    print_behind(out, at, room, ws, text, starts, lengths, known, p, l)
 }
 
 // Appends the type of a function or initializer behind its name and signature.
@@ -390,27 +440,29 @@ fn print_behind(
     room: usize,
     ws: &[u32],
     text: &[u8],
-    w: Words,
+    starts: &[u16; 26],
+    lengths: &[u16; 26],
+    known: usize,
     p: usize,
     l: Labels,
 ) -> usize
     requires { ⌜ Room room (now out) at ⌝ }
-    requires { ⌜ World (now text) w (now ws) p ⌝ }
+    requires { ⌜ World (now text) (lent (now starts) (now lengths) known) (now ws) p ⌝ }
     requires { ⌜ Reach (now ws) l ⌝ }
-    requires { ⌜ Some (Printing behind-way (naming (now text) w) (now ws) p l) ⌝ }
-    ensures { λ r. ⌜ Puts (Printing behind-way (naming (now (text .entry)) w) (now (ws .entry)) p l) room (now (out .entry)) (now (out .exit)) at r ⌝ }
+    requires { ⌜ Some (Printing behind-way (naming (now text) (lent (now starts) (now lengths) known)) (now ws) p l) ⌝ }
+    ensures { λ r. ⌜ Puts (Printing behind-way (naming (now (text .entry)) (lent (now (starts .entry)) (now (lengths .entry)) known)) (now (ws .entry)) p l) room (now (out .entry)) (now (out .exit)) at r ⌝ }
 {
     let kind = get(ws, p, 0);
     if kind == 10 {
         let params = get(ws, p, 3);
         let result = get(ws, p, 4);
-        let r = print_params(out, at, room, ws, text, w, params, l);
+        let r = print_params(out, at, room, ws, text, starts, lengths, known, params, l);
         let s = put_effects_of(out, r, room, ws, p);
         let t = put_text(out, s, room, 26);
-        return print(out, t, room, ws, text, w, result);
+        return print(out, t, room, ws, text, starts, lengths, known, result);
     }
     let r = put_text(out, at, room, 2);
-    print(out, r, room, ws, text, w, p)
+    print(out, r, room, ws, text, starts, lengths, known, p)
 }
 
 // RENDERING
@@ -421,16 +473,18 @@ fn print_whole(
     room: usize,
     ws: &[u32],
     text: &[u8],
-    w: Words,
+    starts: &[u16; 26],
+    lengths: &[u16; 26],
+    known: usize,
     p: usize,
     suffix: &[u8],
 ) -> usize
     requires { ⌜ Room room (now out) 0 ⌝ }
-    requires { ⌜ World (now text) w (now ws) p ⌝ }
-    requires { ⌜ Some (Prints (naming (now text) w) (now ws) p) ⌝ }
-    ensures { λ r. ⌜ Puts (Suffixed (naming (now (text .entry)) w) (now (ws .entry)) p (now (suffix .entry))) room (now (out .entry)) (now (out .exit)) 0 r ⌝ }
+    requires { ⌜ World (now text) (lent (now starts) (now lengths) known) (now ws) p ⌝ }
+    requires { ⌜ Some (Prints (naming (now text) (lent (now starts) (now lengths) known)) (now ws) p) ⌝ }
+    ensures { λ r. ⌜ Puts (Suffixed (naming (now (text .entry)) (lent (now (starts .entry)) (now (lengths .entry)) known)) (now (ws .entry)) p (now (suffix .entry))) room (now (out .entry)) (now (out .exit)) 0 r ⌝ }
 {
-    let r = print(out, 0, room, ws, text, w, p);
+    let r = print(out, 0, room, ws, text, starts, lengths, known, p);
     if suffix.len() == 0 {
         return r;
     }
@@ -441,15 +495,34 @@ fn print_whole(
 
 // Writes the text of the tree at place p to the front of out, with the suffix behind it, and returns its length. Where out has no room for both it returns
 // one more than out's length, and out is as it was.
-pub fn render(out: &mut [u8], ws: &[u32], text: &[u8], w: Words, p: usize, suffix: &[u8]) -> usize
-    requires { ⌜ World (now text) w (now ws) p ⌝ }
-    requires { ⌜ Some (Prints (naming (now text) w) (now ws) p) ⌝ }
-    ensures { λ r. ⌜ Rendered (naming (now (text .entry)) w) (now (ws .entry)) p (now (suffix .entry)) (now (out .entry)) (now (out .exit)) r ⌝ }
+pub fn render(
+    out: &mut [u8],
+    ws: &[u32],
+    text: &[u8],
+    starts: &[u16; 26],
+    lengths: &[u16; 26],
+    known: usize,
+    p: usize,
+    suffix: &[u8],
+) -> usize
+    requires { ⌜ World (now text) (lent (now starts) (now lengths) known) (now ws) p ⌝ }
+    requires { ⌜ Some (Prints (naming (now text) (lent (now starts) (now lengths) known)) (now ws) p) ⌝ }
+    ensures { λ r. ⌜ Rendered (naming (now (text .entry)) (lent (now (starts .entry)) (now (lengths .entry)) known)) (now (ws .entry)) p (now (suffix .entry)) (now (out .entry)) (now (out .exit)) r ⌝ }
 {
     let room = out.len();
-    let n = print_whole(&mut out[..0], room, ws, text, w, p, suffix);
+    let n = print_whole(
+        &mut out[..0],
+        room,
+        ws,
+        text,
+        starts,
+        lengths,
+        known,
+        p,
+        suffix,
+    );
     if room < n {
         return n;
     }
-    print_whole(out, room, ws, text, w, p, suffix)
+    print_whole(out, room, ws, text, starts, lengths, known, p, suffix)
 }

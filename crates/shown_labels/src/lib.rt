@@ -3,6 +3,7 @@ ghost use mathlib.Core.Path.{_≡_};
 ghost use Prim.Native.Nat.{_+_, _*_, _≤_, _<_, _^_};
 ghost use lib.ListN.{length};
 ghost use Rattle.output.specs.Sink.{Room};
+ghost use Rattle.words.specs.Table.{lent};
 ghost use Rattle.records.specs.Lies.{at as field-of};
 ghost use Rattle.naming.specs.Naming.{naming, Known, Puts, Some};
 ghost use Rattle.records.specs.Holds.{Named};
@@ -11,7 +12,6 @@ use naming::put_named;
 use naming::put_text;
 use records::field;
 use records::wide;
-use words::Words;
 
 // A function's labels that are still to be used: so many cells, the first at the place in that field of the record at host.
 pub struct Labels {
@@ -102,13 +102,22 @@ pub fn own_label(ws: &[u32], p: usize, shown: bool) -> usize
 }
 
 // Appends a label and `: `.
-fn put_named_label(out: &mut [u8], at: usize, room: usize, text: &[u8], w: Words, k: usize) -> usize
+fn put_named_label(
+    out: &mut [u8],
+    at: usize,
+    room: usize,
+    text: &[u8],
+    starts: &[u16; 26],
+    lengths: &[u16; 26],
+    known: usize,
+    k: usize,
+) -> usize
     requires { ⌜ Room room (now out) at ⌝ }
-    requires { ⌜ Known (now text) w ⌝ }
-    requires { ⌜ Some (Named (naming (now text) w) k) ⌝ }
-    ensures { λ r. ⌜ Puts (NamedLabel (naming (now (text .entry)) w) k) room (now (out .entry)) (now (out .exit)) at r ⌝ }
+    requires { ⌜ Known (now text) (lent (now starts) (now lengths) known) ⌝ }
+    requires { ⌜ Some (Named (naming (now text) (lent (now starts) (now lengths) known)) k) ⌝ }
+    ensures { λ r. ⌜ Puts (NamedLabel (naming (now (text .entry)) (lent (now (starts .entry)) (now (lengths .entry)) known)) k) room (now (out .entry)) (now (out .exit)) at r ⌝ }
 {
-    let r = put_named(out, at, room, text, w, k);
+    let r = put_named(out, at, room, text, starts, lengths, known, k);
     put_text(out, r, room, 1)
 }
 
@@ -119,22 +128,24 @@ pub fn put_label(
     room: usize,
     ws: &[u32],
     text: &[u8],
-    w: Words,
+    starts: &[u16; 26],
+    lengths: &[u16; 26],
+    known: usize,
     own: usize,
     l: Labels,
 ) -> usize
     requires { ⌜ Room room (now out) at ⌝ }
-    requires { ⌜ Known (now text) w ⌝ }
+    requires { ⌜ Known (now text) (lent (now starts) (now lengths) known) ⌝ }
     requires { ⌜ Reach (now ws) l ⌝ }
-    requires { ⌜ Some (Labelling (naming (now text) w) (now ws) own l) ⌝ }
-    ensures { λ r. ⌜ Puts (Labelling (naming (now (text .entry)) w) (now (ws .entry)) own l) room (now (out .entry)) (now (out .exit)) at r ⌝ }
+    requires { ⌜ Some (Labelling (naming (now text) (lent (now starts) (now lengths) known)) (now ws) own l) ⌝ }
+    ensures { λ r. ⌜ Puts (Labelling (naming (now (text .entry)) (lent (now (starts .entry)) (now (lengths .entry)) known)) (now (ws .entry)) own l) room (now (out .entry)) (now (out .exit)) at r ⌝ }
 {
     let left = l.left;
     if left == 0 {
         if own == 4294967295 {
             return at;
         }
-        return put_named_label(out, at, room, text, w, own);
+        return put_named_label(out, at, room, text, starts, lengths, known, own);
     }
     let host = l.host;
     let at_field = l.field;
@@ -144,5 +155,5 @@ pub fn put_label(
         let r = put_text(out, at, room, 33);
         return put_text(out, r, room, 1);
     }
-    put_named_label(out, at, room, text, w, k)
+    put_named_label(out, at, room, text, starts, lengths, known, k)
 }

@@ -3,14 +3,13 @@ ghost use mathlib.Core.Path.{_≡_};
 ghost use Prim.Native.Nat.{_+_, _≤_};
 ghost use lib.ListN.{length, take, drop};
 ghost use Rattle.definition.specs.Base.{Name, same};
-ghost use Rattle.words.specs.Table.{part, Fitting};
+ghost use Rattle.words.specs.Table.{part, Fitting, lent};
 ghost use Rattle.output.specs.Sink.{Room};
 ghost use Rattle.spelling.specs.Spelled.{Spells, LengthIs, Appended};
 use output::put_part;
 use pieces::Piece;
 use pieces::first;
 use pieces::next_piece;
-use words::Words;
 
 // Whether the text begins with these bytes.
 fn begins(text: &[u8], front: &[u8]) -> bool
@@ -38,14 +37,20 @@ fn stands(fixed: &[u8], k: usize, text: &[u8], from: usize, to: usize) -> bool
 }
 
 // The length of the name at p.
-pub fn name_length(text: &[u8], p: usize, w: Words) -> usize
-    requires { ⌜ (p ≤ length (now text)) × ((length (now text) ≤ 65535) × Fitting (now text) w) ⌝ }
-    ensures { λ r. ⌜ LengthIs (now (text .entry)) w p r ⌝ }
+pub fn name_length(
+    text: &[u8],
+    p: usize,
+    starts: &[u16; 26],
+    lengths: &[u16; 26],
+    known: usize,
+) -> usize
+    requires { ⌜ (p ≤ length (now text)) × ((length (now text) ≤ 65535) × Fitting (now text) (lent (now starts) (now lengths) known)) ⌝ }
+    ensures { λ r. ⌜ LengthIs (now (text .entry)) (lent (now (starts .entry)) (now (lengths .entry)) known) p r ⌝ }
 {
     let mut s = first(text, p);
     let mut sum = 0;
     loop {
-        match next_piece(text, w, s) {
+        match next_piece(text, starts, lengths, known, s) {
             Piece::Part(from, to, next) => {
                 sum += to - from;
                 s = next;
@@ -58,10 +63,19 @@ pub fn name_length(text: &[u8], p: usize, w: Words) -> usize
 }
 
 // Appends the name at p, and stops once past room.
-pub fn put_name(out: &mut [u8], at: usize, room: usize, text: &[u8], p: usize, w: Words) -> usize
+pub fn put_name(
+    out: &mut [u8],
+    at: usize,
+    room: usize,
+    text: &[u8],
+    p: usize,
+    starts: &[u16; 26],
+    lengths: &[u16; 26],
+    known: usize,
+) -> usize
     requires { ⌜ Room room (now out) at ⌝ }
-    requires { ⌜ (p ≤ length (now text)) × ((length (now text) ≤ 65535) × Fitting (now text) w) ⌝ }
-    ensures { λ r. ⌜ Appended (now (text .entry)) w p room (now (out .entry)) (now (out .exit)) at r ⌝ }
+    requires { ⌜ (p ≤ length (now text)) × ((length (now text) ≤ 65535) × Fitting (now text) (lent (now starts) (now lengths) known)) ⌝ }
+    ensures { λ r. ⌜ Appended (now (text .entry)) (lent (now (starts .entry)) (now (lengths .entry)) known) p room (now (out .entry)) (now (out .exit)) at r ⌝ }
 {
     let mut s = first(text, p);
     let mut r = at;
@@ -69,7 +83,7 @@ pub fn put_name(out: &mut [u8], at: usize, room: usize, text: &[u8], p: usize, w
         if room < r {
             return r;
         }
-        match next_piece(text, w, s) {
+        match next_piece(text, starts, lengths, known, s) {
             Piece::Part(from, to, next) => {
                 r = put_part(out, r, room, text, from, to);
                 s = next;
@@ -82,14 +96,21 @@ pub fn put_name(out: &mut [u8], at: usize, room: usize, text: &[u8], p: usize, w
 }
 
 // Whether the name at p is `fixed`.
-pub fn name_is(text: &[u8], p: usize, w: Words, fixed: &[u8]) -> bool
-    requires { ⌜ (p ≤ length (now text)) × ((length (now text) ≤ 65535) × Fitting (now text) w) ⌝ }
-    ensures { λ r. ⌜ ((name : Name) → Spells (now (text .entry)) w p name → r ≡ same name (now (fixed .entry))) ⌝ }
+pub fn name_is(
+    text: &[u8],
+    p: usize,
+    starts: &[u16; 26],
+    lengths: &[u16; 26],
+    known: usize,
+    fixed: &[u8],
+) -> bool
+    requires { ⌜ (p ≤ length (now text)) × ((length (now text) ≤ 65535) × Fitting (now text) (lent (now starts) (now lengths) known)) ⌝ }
+    ensures { λ r. ⌜ ((name : Name) → Spells (now (text .entry)) (lent (now (starts .entry)) (now (lengths .entry)) known) p name → r ≡ same name (now (fixed .entry))) ⌝ }
 {
     let mut s = first(text, p);
     let mut k = 0;
     loop {
-        match next_piece(text, w, s) {
+        match next_piece(text, starts, lengths, known, s) {
             Piece::Part(from, to, next) => {
                 if !stands(fixed, k, text, from, to) {
                     return false;

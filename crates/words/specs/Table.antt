@@ -23,6 +23,10 @@ unfoldable pub words-of : Text → (starts lengths : List ℕ) → ℕ → List 
 words-of text starts lengths zero = []
 words-of text starts lengths (suc n) = words-of text starts lengths n ++ (word-of text starts lengths n ∷ [])
 
+-- the table of two arrays and a count that are lent
+abbrev pub lent : (starts lengths : List ℕ) → ℕ → Words
+lent starts lengths known = record { starts = starts; lengths = lengths; count = known }
+
 abbrev pub table : Text → Words → List Name
 table text w = words-of text (w .starts) (w .lengths) (w .count)
 

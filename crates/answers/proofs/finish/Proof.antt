@@ -18,7 +18,7 @@ enum-known-p c = search needs
 
 -- src/lib.rt:75:17
 render-requires : tie.Need-render-requires
-render-requires c κs = (left-world (c .before .before .before .before .before .before .before .before .before .args .what) (c .before .before .before .before .before .before .before .before .before .args .body .now) (c .before .before .before .before .before .before .before .before .before .args .suffix .now) (c .before .before .before .before .before .before .before .before .before .args .end) (c .before .before .before .before .before .before .before .before .before .args .words) (c .before .before .before .before .before .before .before .before .before .args .ws .now) (c .before .before .before .before .before .before .before .before .before .args .ceiling) (c .before .before .before .before .before .before .before .before .before .args .st) _ (c .before .before .before .before .before .before .before .before .before .pre) (was-at (c .before .before .before .before .before .before .before .before .before .args .what) (c .before .before .before .before .single .result) (c .before .before .p .given .1) (c .before .before .before .before .single .ensures)), left-prints (c .before .before .before .before .before .before .before .before .before .args .what) (c .before .before .before .before .before .before .before .before .before .args .body .now) (c .before .before .before .before .before .before .before .before .before .args .suffix .now) (c .before .before .before .before .before .before .before .before .before .args .end) (c .before .before .before .before .before .before .before .before .before .args .words) (c .before .before .before .before .before .before .before .before .before .args .ws .now) (c .before .before .before .before .before .before .before .before .before .args .ceiling) (c .before .before .before .before .before .before .before .before .before .args .st) _ (c .before .before .before .before .before .before .before .before .before .pre) (was-at (c .before .before .before .before .before .before .before .before .before .args .what) (c .before .before .before .before .single .result) (c .before .before .p .given .1) (c .before .before .before .before .single .ensures)))
+render-requires c κs = (left-world (c .before .before .before .before .before .before .before .before .before .before .before .before .before .args .what) (c .before .before .before .before .before .before .before .before .before .before .before .before .before .args .body .now) (c .before .before .before .before .before .before .before .before .before .before .before .before .before .args .suffix .now) (c .before .before .before .before .before .before .before .before .before .before .before .before .before .args .end) (c .before .before .before .before .before .before .before .before .before .before .before .before .before .args .words) (c .before .before .before .before .before .before .before .before .before .before .before .before .before .args .ws .now) (c .before .before .before .before .before .before .before .before .before .before .before .before .before .args .ceiling) (c .before .before .before .before .before .before .before .before .before .before .before .before .before .args .st) _ (c .before .before .before .before .before .before .before .before .before .before .before .before .before .pre) (was-at (c .before .before .before .before .before .before .before .before .before .before .before .before .before .args .what) (c .before .before .before .before .before .before .before .before .single .result) (c .before .before .before .before .before .before .p .given .1) (c .before .before .before .before .before .before .before .before .single .ensures)), left-prints (c .before .before .before .before .before .before .before .before .before .before .before .before .before .args .what) (c .before .before .before .before .before .before .before .before .before .before .before .before .before .args .body .now) (c .before .before .before .before .before .before .before .before .before .before .before .before .before .args .suffix .now) (c .before .before .before .before .before .before .before .before .before .before .before .before .before .args .end) (c .before .before .before .before .before .before .before .before .before .before .before .before .before .args .words) (c .before .before .before .before .before .before .before .before .before .before .before .before .before .args .ws .now) (c .before .before .before .before .before .before .before .before .before .before .before .before .before .args .ceiling) (c .before .before .before .before .before .before .before .before .before .before .before .before .before .args .st) _ (c .before .before .before .before .before .before .before .before .before .before .before .before .before .pre) (was-at (c .before .before .before .before .before .before .before .before .before .before .before .before .before .args .what) (c .before .before .before .before .before .before .before .before .single .result) (c .before .before .before .before .before .before .p .given .1) (c .before .before .before .before .before .before .before .before .single .ensures)))
 
 -- src/lib.rt:77:13
 measured-requires : tie.Need-measured-requires
@@ -34,7 +34,7 @@ same-length c = search needs
 
 -- src/lib.rt:58:1
 returns : tie.Need-returns
-returns c = finishes-at (c .before .before .before .before .before .before .before .before .before .before .before .before .before .before .args .what) (c .before .before .before .before .before .before .before .before .before .before .before .before .before .before .args .body .now) (c .before .before .before .before .before .before .before .before .before .before .before .before .before .before .args .suffix .now) (c .before .before .before .before .before .before .before .before .before .before .before .before .before .before .args .end) (c .before .before .before .before .before .before .before .before .before .before .before .before .before .before .args .words) (c .before .before .before .before .before .before .before .before .before .before .before .before .before .before .args .ws .now) (c .before .before .before .before .before .before .before .before .before .before .before .before .before .before .args .ceiling) (c .before .before .before .before .before .before .before .before .before .before .before .before .before .before .args .st) _ _ (c .before .before .before .before .before .before .before .before .before .before .before .before .before .before .args .out .now) _ _ (was-at (c .before .before .before .before .before .before .before .before .before .before .before .before .before .before .args .what) (c .before .before .before .before .before .before .before .before .before .single .result) (c .before .before .before .before .before .before .before .p .given .1) (c .before .before .before .before .before .before .before .before .before .single .ensures)) (c .before .before .before .before .render .ensures) (c .measured .ensures)
+returns c = finishes-at (c .before .before .before .before .before .before .before .before .before .before .before .before .before .before .before .before .before .before .args .what) (c .before .before .before .before .before .before .before .before .before .before .before .before .before .before .before .before .before .before .args .body .now) (c .before .before .before .before .before .before .before .before .before .before .before .before .before .before .before .before .before .before .args .suffix .now) (c .before .before .before .before .before .before .before .before .before .before .before .before .before .before .before .before .before .before .args .end) (c .before .before .before .before .before .before .before .before .before .before .before .before .before .before .before .before .before .before .args .words) (c .before .before .before .before .before .before .before .before .before .before .before .before .before .before .before .before .before .before .args .ws .now) (c .before .before .before .before .before .before .before .before .before .before .before .before .before .before .before .before .before .before .args .ceiling) (c .before .before .before .before .before .before .before .before .before .before .before .before .before .before .before .before .before .before .args .st) _ _ (c .before .before .before .before .before .before .before .before .before .before .before .before .before .before .before .before .before .before .args .out .now) _ _ (was-at (c .before .before .before .before .before .before .before .before .before .before .before .before .before .before .before .before .before .before .args .what) (c .before .before .before .before .before .before .before .before .before .before .before .before .before .single .result) (c .before .before .before .before .before .before .before .before .before .before .before .p .given .1) (c .before .before .before .before .before .before .before .before .before .before .before .before .before .single .ensures)) (c .before .before .before .before .render .ensures) (c .measured .ensures)
 
 -- src/lib.rt:58:1
 returns-2 : tie.Need-returns-2

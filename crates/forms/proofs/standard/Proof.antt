@@ -1,5 +1,6 @@
 -- `forms::standard` meets its contract. Assumes nothing.
 use native.Mathlib.Omega.{arith}
+use Rattle.words.specs.Table.{lent}
 use Rattle.naming.specs.Naming.{naming}
 use Rattle.definition.specs.Base.{bytes}
 use borrow.Author.Tests.{not-true, not-false}
@@ -13,42 +14,42 @@ get-requires : tie.Need-get-requires
 get-requires c κs = search needs
 
 returns : tie.Need-returns
-returns c = standard-low (naming (c .before .before .before .before .before .args .text .now) (c .before .before .before .before .before .args .w)) (c .before .before .before .before .before .args .ws .now) (c .before .before .before .before .before .args .p) (c .before .get .ensures .0) (c .if1 .taken)
+returns c = standard-low (naming (c .before .before .before .before .before .args .text .now) (lent (c .before .before .before .before .before .args .starts .now) (c .before .before .before .before .before .args .lengths .now) (c .before .before .before .before .before .args .known))) (c .before .before .before .before .before .args .ws .now) (c .before .before .before .before .before .args .p) (c .before .get .ensures .0) (c .if1 .taken)
 
 returns-2 : tie.Need-returns-2
-returns-2 c = standard-high (naming (c .before .before .before .before .before .before .args .text .now) (c .before .before .before .before .before .before .args .w)) (c .before .before .before .before .before .before .args .ws .now) (c .before .before .before .before .before .before .args .p) (c .before .before .get .ensures .0) (c .if2 .taken)
+returns-2 c = standard-high (naming (c .before .before .before .before .before .before .args .text .now) (lent (c .before .before .before .before .before .before .args .starts .now) (c .before .before .before .before .before .before .args .lengths .now) (c .before .before .before .before .before .before .args .known))) (c .before .before .before .before .before .before .args .ws .now) (c .before .before .before .before .before .before .args .p) (c .before .before .get .ensures .0) (c .if2 .taken)
 
 get-requires-2 : tie.Need-get-requires-2
 get-requires-2 c κs = search needs
 
 named-is-requires : tie.Need-named-is-requires
-named-is-requires c κs = (c .before .before .before .before .before .before .before .pre .0 .known, (own-some (naming (c .before .before .before .before .before .before .before .args .text .now) (c .before .before .before .before .before .before .before .args .w)) (c .before .before .before .before .before .before .before .args .ws .now) (c .before .before .before .before .before .before .before .args .p) (c .before .before .before .get .ensures .0) (c .before .before .if1 .left) (c .before .if2 .left) (c .before .before .before .before .before .before .before .pre .1 .0) (c .get2 .ensures .0), c .before .before .before .before .before .before .before .pre .1 .1))
+named-is-requires c κs = (c .before .before .before .before .before .before .before .pre .0 .known, (own-some (naming (c .before .before .before .before .before .before .before .args .text .now) (lent (c .before .before .before .before .before .before .before .args .starts .now) (c .before .before .before .before .before .before .before .args .lengths .now) (c .before .before .before .before .before .before .before .args .known))) (c .before .before .before .before .before .before .before .args .ws .now) (c .before .before .before .before .before .before .before .args .p) (c .before .before .before .get .ensures .0) (c .before .before .if1 .left) (c .before .if2 .left) (c .before .before .before .before .before .before .before .pre .1 .0) (c .get2 .ensures .0), c .before .before .before .before .before .before .before .pre .1 .1))
 
 returns-3 : tie.Need-returns-3
-returns-3 c = standard-unnamed (naming (c .before .before .before .before .before .before .before .before .before .args .text .now) (c .before .before .before .before .before .before .before .before .before .args .w)) (c .before .before .before .before .before .before .before .before .before .args .ws .now) (c .before .before .before .before .before .before .before .before .before .args .p) (c .before .before .before .before .before .get .ensures .0) (c .before .before .before .before .if1 .left) (c .before .before .before .if2 .left) (c .before .before .get2 .ensures .0) (c .before .named-is .ensures) (not-true _ (c .if3 .taken))
+returns-3 c = standard-unnamed (naming (c .before .before .before .before .before .before .before .before .before .args .text .now) (lent (c .before .before .before .before .before .before .before .before .before .args .starts .now) (c .before .before .before .before .before .before .before .before .before .args .lengths .now) (c .before .before .before .before .before .before .before .before .before .args .known))) (c .before .before .before .before .before .before .before .before .before .args .ws .now) (c .before .before .before .before .before .before .before .before .before .args .p) (c .before .before .before .before .before .get .ensures .0) (c .before .before .before .before .if1 .left) (c .before .before .before .if2 .left) (c .before .before .get2 .ensures .0) (c .before .named-is .ensures) (not-true _ (c .if3 .taken))
 
 get-requires-3 : tie.Need-get-requires-3
 get-requires-3 c κs = search needs
 
 get-requires-4 : tie.Need-get-requires-4
-get-requires-4 c κs = let b = context-below (naming (c .before .before .before .before .before .before .before .before .before .before .args .text .now) (c .before .before .before .before .before .before .before .before .before .before .args .w)) (c .before .before .before .before .before .before .before .before .before .before .args .ws .now) (c .before .before .before .before .before .before .before .before .before .before .args .p) (c .before .before .before .before .before .before .get .ensures .0) (c .before .before .before .before .before .if1 .left) (c .before .before .before .before .if2 .left) (c .before .before .before .before .before .before .before .before .before .before .pre .1 .0) in (omega (arith, c .get3 .ensures .0, c .before .before .before .before .before .before .before .before .before .before .pre .0 .long), omega arith)
+get-requires-4 c κs = let b = context-below (naming (c .before .before .before .before .before .before .before .before .before .before .args .text .now) (lent (c .before .before .before .before .before .before .before .before .before .before .args .starts .now) (c .before .before .before .before .before .before .before .before .before .before .args .lengths .now) (c .before .before .before .before .before .before .before .before .before .before .args .known))) (c .before .before .before .before .before .before .before .before .before .before .args .ws .now) (c .before .before .before .before .before .before .before .before .before .before .args .p) (c .before .before .before .before .before .before .get .ensures .0) (c .before .before .before .before .before .if1 .left) (c .before .before .before .before .if2 .left) (c .before .before .before .before .before .before .before .before .before .before .pre .1 .0) in (omega (arith, c .get3 .ensures .0, c .before .before .before .before .before .before .before .before .before .before .pre .0 .long), omega arith)
 
 returns-4 : tie.Need-returns-4
-returns-4 c = standard-elsewhere (naming (c .before .before .before .before .before .before .before .before .before .before .before .before .args .text .now) (c .before .before .before .before .before .before .before .before .before .before .before .before .args .w)) (c .before .before .before .before .before .before .before .before .before .before .before .before .args .ws .now) (c .before .before .before .before .before .before .before .before .before .before .before .before .args .p) (c .before .before .before .before .before .before .before .before .get .ensures .0) (c .before .before .before .before .before .before .before .if1 .left) (c .before .before .before .before .before .before .if2 .left) (c .before .before .before .before .before .get2 .ensures .0) (c .before .before .before .before .named-is .ensures) (not-false _ (c .before .before .before .if3 .left)) (c .before .before .get3 .ensures .0) (c .before .get4 .ensures .0) (c .if4 .taken)
+returns-4 c = standard-elsewhere (naming (c .before .before .before .before .before .before .before .before .before .before .before .before .args .text .now) (lent (c .before .before .before .before .before .before .before .before .before .before .before .before .args .starts .now) (c .before .before .before .before .before .before .before .before .before .before .before .before .args .lengths .now) (c .before .before .before .before .before .before .before .before .before .before .before .before .args .known))) (c .before .before .before .before .before .before .before .before .before .before .before .before .args .ws .now) (c .before .before .before .before .before .before .before .before .before .before .before .before .args .p) (c .before .before .before .before .before .before .before .before .get .ensures .0) (c .before .before .before .before .before .before .before .if1 .left) (c .before .before .before .before .before .before .if2 .left) (c .before .before .before .before .before .get2 .ensures .0) (c .before .before .before .before .named-is .ensures) (not-false _ (c .before .before .before .if3 .left)) (c .before .before .get3 .ensures .0) (c .before .get4 .ensures .0) (c .if4 .taken)
 
 get-requires-5 : tie.Need-get-requires-5
-get-requires-5 c κs = let b = context-below (naming (c .before .before .before .before .before .before .before .before .before .before .before .before .args .text .now) (c .before .before .before .before .before .before .before .before .before .before .before .before .args .w)) (c .before .before .before .before .before .before .before .before .before .before .before .before .args .ws .now) (c .before .before .before .before .before .before .before .before .before .before .before .before .args .p) (c .before .before .before .before .before .before .before .before .get .ensures .0) (c .before .before .before .before .before .before .before .if1 .left) (c .before .before .before .before .before .before .if2 .left) (c .before .before .before .before .before .before .before .before .before .before .before .before .pre .1 .0) in (omega (arith, c .before .before .get3 .ensures .0, c .before .before .before .before .before .before .before .before .before .before .before .before .pre .0 .long), omega arith)
+get-requires-5 c κs = let b = context-below (naming (c .before .before .before .before .before .before .before .before .before .before .before .before .args .text .now) (lent (c .before .before .before .before .before .before .before .before .before .before .before .before .args .starts .now) (c .before .before .before .before .before .before .before .before .before .before .before .before .args .lengths .now) (c .before .before .before .before .before .before .before .before .before .before .before .before .args .known))) (c .before .before .before .before .before .before .before .before .before .before .before .before .args .ws .now) (c .before .before .before .before .before .before .before .before .before .before .before .before .args .p) (c .before .before .before .before .before .before .before .before .get .ensures .0) (c .before .before .before .before .before .before .before .if1 .left) (c .before .before .before .before .before .before .if2 .left) (c .before .before .before .before .before .before .before .before .before .before .before .before .pre .1 .0) in (omega (arith, c .before .before .get3 .ensures .0, c .before .before .before .before .before .before .before .before .before .before .before .before .pre .0 .long), omega arith)
 
 slice-aggregate-named-is : tie.Need-slice-aggregate-named-is
 slice-aggregate-named-is c = search needs
 
 named-is-requires-2 : tie.Need-named-is-requires-2
 unfolding bytes
-named-is-requires-2 c κs = (c .before .before .before .before .before .before .before .before .before .before .before .before .before .before .pre .0 .known, (module-some (naming (c .before .before .before .before .before .before .before .before .before .before .before .before .before .before .args .text .now) (c .before .before .before .before .before .before .before .before .before .before .before .before .before .before .args .w)) (c .before .before .before .before .before .before .before .before .before .before .before .before .before .before .args .ws .now) (c .before .before .before .before .before .before .before .before .before .before .before .before .before .before .args .p) (c .before .before .before .before .before .before .before .before .before .before .get .ensures .0) (c .before .before .before .before .before .before .before .before .before .if1 .left) (c .before .before .before .before .before .before .before .before .if2 .left) (c .before .before .before .before .before .before .before .get2 .ensures .0) (c .before .before .before .before .before .before .named-is .ensures) (not-false _ (c .before .before .before .before .before .if3 .left)) (c .before .before .before .before .get3 .ensures .0) (c .before .before .before .get4 .ensures .0) (c .before .before .if4 .left) (c .before .before .before .before .before .before .before .before .before .before .before .before .before .before .pre .1 .0) (c .before .get5 .ensures .0), swift-alone))
+named-is-requires-2 c κs = (c .before .before .before .before .before .before .before .before .before .before .before .before .before .before .pre .0 .known, (module-some (naming (c .before .before .before .before .before .before .before .before .before .before .before .before .before .before .args .text .now) (lent (c .before .before .before .before .before .before .before .before .before .before .before .before .before .before .args .starts .now) (c .before .before .before .before .before .before .before .before .before .before .before .before .before .before .args .lengths .now) (c .before .before .before .before .before .before .before .before .before .before .before .before .before .before .args .known))) (c .before .before .before .before .before .before .before .before .before .before .before .before .before .before .args .ws .now) (c .before .before .before .before .before .before .before .before .before .before .before .before .before .before .args .p) (c .before .before .before .before .before .before .before .before .before .before .get .ensures .0) (c .before .before .before .before .before .before .before .before .before .if1 .left) (c .before .before .before .before .before .before .before .before .if2 .left) (c .before .before .before .before .before .before .before .get2 .ensures .0) (c .before .before .before .before .before .before .named-is .ensures) (not-false _ (c .before .before .before .before .before .if3 .left)) (c .before .before .before .before .get3 .ensures .0) (c .before .before .before .get4 .ensures .0) (c .before .before .if4 .left) (c .before .before .before .before .before .before .before .before .before .before .before .before .before .before .pre .1 .0) (c .before .get5 .ensures .0), swift-alone))
 
 returns-5 : tie.Need-returns-5
 unfolding bytes
-returns-5 c = standard-swift (naming (c .before .before .before .before .before .before .before .before .before .before .before .before .before .before .before .args .text .now) (c .before .before .before .before .before .before .before .before .before .before .before .before .before .before .before .args .w)) (c .before .before .before .before .before .before .before .before .before .before .before .before .before .before .before .args .ws .now) (c .before .before .before .before .before .before .before .before .before .before .before .before .before .before .before .args .p) (c .before .before .before .before .before .before .before .before .before .before .before .get .ensures .0) (c .before .before .before .before .before .before .before .before .before .before .if1 .left) (c .before .before .before .before .before .before .before .before .before .if2 .left) (c .before .before .before .before .before .before .before .before .get2 .ensures .0) (c .before .before .before .before .before .before .before .named-is .ensures) (not-false _ (c .before .before .before .before .before .before .if3 .left)) (c .before .before .before .before .before .get3 .ensures .0) (c .before .before .before .before .get4 .ensures .0) (c .before .before .before .if4 .left) (c .before .before .get5 .ensures .0) (c .named-is2 .ensures)
+returns-5 c = standard-swift (naming (c .before .before .before .before .before .before .before .before .before .before .before .before .before .before .before .args .text .now) (lent (c .before .before .before .before .before .before .before .before .before .before .before .before .before .before .before .args .starts .now) (c .before .before .before .before .before .before .before .before .before .before .before .before .before .before .before .args .lengths .now) (c .before .before .before .before .before .before .before .before .before .before .before .before .before .before .before .args .known))) (c .before .before .before .before .before .before .before .before .before .before .before .before .before .before .before .args .ws .now) (c .before .before .before .before .before .before .before .before .before .before .before .before .before .before .before .args .p) (c .before .before .before .before .before .before .before .before .before .before .before .get .ensures .0) (c .before .before .before .before .before .before .before .before .before .before .if1 .left) (c .before .before .before .before .before .before .before .before .before .if2 .left) (c .before .before .before .before .before .before .before .before .get2 .ensures .0) (c .before .before .before .before .before .before .before .named-is .ensures) (not-false _ (c .before .before .before .before .before .before .if3 .left)) (c .before .before .before .before .before .get3 .ensures .0) (c .before .before .before .before .get4 .ensures .0) (c .before .before .before .if4 .left) (c .before .before .get5 .ensures .0) (c .named-is2 .ensures)
 
 pub standard-spec : {M : Type 1} → statement M
 standard-spec =

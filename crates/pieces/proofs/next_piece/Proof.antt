@@ -8,7 +8,7 @@ use native.Mathlib.Nat.{le-refl}
 use lib.ListN.{length, getD, drop}
 use borrow.Author.Needs.{needs}
 use Rattle.definition.specs.Base.{lower, upper}
-use Rattle.words.specs.Table.{table}
+use Rattle.words.specs.Table.{table, lent}
 use Rattle.pieces.specs.Pieces.{literal-piece, piece-of}
 use Rattle.pieces.proofs.Steps.{piece-is, piece-small, piece-capital, piece-other, piece-past, piece-plain, small-low, small-high, capital-low, capital-high}
 use Rattle.pieces.proofs.next_piece.Statement.{statement}
@@ -32,15 +32,15 @@ sub-word c = let h : 97 ≤ getD (c .before .before .before .before .before .bef
 cast-word : tie.Need-cast-word
 cast-word c = let h : getD (c .before .before .before .before .before .before .args .text .now) (c .before .before .before .before .before .before .args .s .at) 0 ≤ 122 = small-high _ (small c) in omega arith
 
-add-t16 : tie.Need-add-t16
-add-t16 c = search needs
+add-t18 : tie.Need-add-t18
+add-t18 c = search needs
 
 word-requires : tie.Need-word-requires
 word-requires c κs = search needs
 
 returns : tie.Need-returns
 returns c =
-    let words = table (c .before .before .before .before .before .before .before .args .text .now) (c .before .before .before .before .before .before .before .args .w) in
+    let words = table (c .before .before .before .before .before .before .before .args .text .now) (lent (c .before .before .before .before .before .before .before .args .starts .now) (c .before .before .before .before .before .before .before .args .lengths .now) (c .before .before .before .before .before .before .before .args .known)) in
     let l : c .before .before .before .before .before .before .before .args .s .at + 1 ≤ length (c .before .before .before .before .before .before .before .args .text .now) = omega (arith, c .before .before .before .before .if2 .taken) in
     piece-is (c .before .before .before .before .before .before .before .args .text .now) (c .before .before .before .before .before .before .before .args .s .punycoded)
     (ap (λ (b : Bool). piece-of words b (c .before .before .before .before .before .before .before .args .s .punycoded) (drop (c .before .before .before .before .before .before .before .args .s .at) (c .before .before .before .before .before .before .before .args .text .now))) (c .before .before .before .before .before .if1 .taken)
@@ -56,15 +56,15 @@ sub-word-2 c = let h : 65 ≤ getD (c .before .before .before .before .before .b
 cast-word-2 : tie.Need-cast-word-2
 cast-word-2 c = let h : getD (c .before .before .before .before .before .before .before .before .args .text .now) (c .before .before .before .before .before .before .before .before .args .s .at) 0 ≤ 90 = capital-high _ (capital c) in omega arith
 
-add-t21 : tie.Need-add-t21
-add-t21 c = search needs
+add-t23 : tie.Need-add-t23
+add-t23 c = search needs
 
 word-requires-2 : tie.Need-word-requires-2
 word-requires-2 c κs = search needs
 
 returns-2 : tie.Need-returns-2
 returns-2 c =
-    let words = table (c .before .before .before .before .before .before .before .before .before .args .text .now) (c .before .before .before .before .before .before .before .before .before .args .w) in
+    let words = table (c .before .before .before .before .before .before .before .before .before .args .text .now) (lent (c .before .before .before .before .before .before .before .before .before .args .starts .now) (c .before .before .before .before .before .before .before .before .before .args .lengths .now) (c .before .before .before .before .before .before .before .before .before .args .known)) in
     let l : c .before .before .before .before .before .before .before .before .before .args .s .at + 1 ≤ length (c .before .before .before .before .before .before .before .before .before .args .text .now) = omega (arith, c .before .before .before .before .before .before .if2 .taken) in
     piece-is (c .before .before .before .before .before .before .before .before .before .args .text .now) (c .before .before .before .before .before .before .before .before .before .args .s .punycoded)
     (ap (λ (b : Bool). piece-of words b (c .before .before .before .before .before .before .before .before .before .args .s .punycoded) (drop (c .before .before .before .before .before .before .before .before .before .args .s .at) (c .before .before .before .before .before .before .before .before .before .args .text .now))) (c .before .before .before .before .before .before .before .if1 .taken)
@@ -76,7 +76,7 @@ literal-requires c κs = search needs
 
 returns-3 : tie.Need-returns-3
 returns-3 c =
-    let words = table (c .before .before .before .args .text .now) (c .before .before .before .args .w) in
+    let words = table (c .before .before .before .args .text .now) (lent (c .before .before .before .args .starts .now) (c .before .before .before .args .lengths .now) (c .before .before .before .args .known)) in
     let text = c .before .before .before .args .text .now in
     let at = c .before .before .before .args .s .at in
     let p = c .before .before .before .args .s .punycoded in
@@ -97,13 +97,13 @@ next-piece-spec =
     is-lower-requires
     sub-word
     cast-word
-    add-t16
+    add-t18
     word-requires
     returns
     is-upper-requires
     sub-word-2
     cast-word-2
-    add-t21
+    add-t23
     word-requires-2
     returns-2
     literal-requires

@@ -1,5 +1,6 @@
 -- `shown_labels::put_label` meets its contract. Assumes nothing.
 use native.Mathlib.Omega.{arith}
+use Rattle.words.specs.Table.{lent}
 use Rattle.naming.specs.Naming.{naming}
 use Rattle.shown_labels.proofs.LabelLaws.{open-labels, own-label-of, label-own, label-missing, first-is-named, puts-first, puts-marker}
 use borrow.Author.Needs.{needs}
@@ -7,13 +8,13 @@ use Rattle.shown_labels.proofs.put_label.Statement.{statement}
 use Rattle.shown_labels.proofs.put_label.Tie as tie
 
 returns : tie.Need-returns
-returns c = label-missing (naming (c .before .before .before .before .before .args .text .now) (c .before .before .before .before .before .args .w)) (c .before .before .before .before .before .args .ws .now) (c .before .before .before .before .before .args .own) (c .before .before .before .before .before .args .l) (c .before .if1 .taken) (c .if2 .taken) (c .before .before .before .before .before .pre .0)
+returns c = label-missing (naming (c .before .before .before .before .before .args .text .now) (lent (c .before .before .before .before .before .args .starts .now) (c .before .before .before .before .before .args .lengths .now) (c .before .before .before .before .before .args .known))) (c .before .before .before .before .before .args .ws .now) (c .before .before .before .before .before .args .own) (c .before .before .before .before .before .args .l) (c .before .if1 .taken) (c .if2 .taken) (c .before .before .before .before .before .pre .0)
 
 put-named-label-requires : tie.Need-put-named-label-requires
-put-named-label-requires c κs = let n = own-label-of (naming (c .before .before .before .before .before .before .args .text .now) (c .before .before .before .before .before .before .args .w)) (c .before .before .before .before .before .before .args .ws .now) (c .before .before .before .before .before .before .args .own) (c .before .before .before .before .before .before .args .l) (c .before .before .if1 .taken) (c .before .if2 .left) (c .before .before .before .before .before .before .pre .1 .1 .1 .is) in (c .before .before .before .before .before .before .pre .0, (c .before .before .before .before .before .before .pre .1 .0, record { text = n .name; is = n .named }))
+put-named-label-requires c κs = let n = own-label-of (naming (c .before .before .before .before .before .before .args .text .now) (lent (c .before .before .before .before .before .before .args .starts .now) (c .before .before .before .before .before .before .args .lengths .now) (c .before .before .before .before .before .before .args .known))) (c .before .before .before .before .before .before .args .ws .now) (c .before .before .before .before .before .before .args .own) (c .before .before .before .before .before .before .args .l) (c .before .before .if1 .taken) (c .before .if2 .left) (c .before .before .before .before .before .before .pre .1 .1 .1 .is) in (c .before .before .before .before .before .before .pre .0, (c .before .before .before .before .before .before .pre .1 .0, record { text = n .name; is = n .named }))
 
 returns-2 : tie.Need-returns-2
-returns-2 c = label-own (naming (c .before .before .before .before .before .before .before .before .before .args .text .now) (c .before .before .before .before .before .before .before .before .before .args .w)) (c .before .before .before .before .before .before .before .before .before .args .ws .now) (c .before .before .before .before .before .before .before .before .before .args .own) (c .before .before .before .before .before .before .before .before .before .args .l) (c .before .before .before .before .before .if1 .taken) (c .before .before .before .before .if2 .left) (c .before .before .put-named-label .ensures)
+returns-2 c = label-own (naming (c .before .before .before .before .before .before .before .before .before .args .text .now) (lent (c .before .before .before .before .before .before .before .before .before .args .starts .now) (c .before .before .before .before .before .before .before .before .before .args .lengths .now) (c .before .before .before .before .before .before .before .before .before .args .known))) (c .before .before .before .before .before .before .before .before .before .args .ws .now) (c .before .before .before .before .before .before .before .before .before .args .own) (c .before .before .before .before .before .before .before .before .before .args .l) (c .before .before .before .before .before .if1 .taken) (c .before .before .before .before .if2 .left) (c .before .before .put-named-label .ensures)
 
 get-requires : tie.Need-get-requires
 get-requires c κs = search needs
@@ -28,13 +29,13 @@ put-text-requires-2 : tie.Need-put-text-requires-2
 put-text-requires-2 c κs = search needs
 
 returns-3 : tie.Need-returns-3
-returns-3 c = puts-marker (naming (c .before .before .before .before .before .before .before .before .before .before .before .before .before .before .before .args .text .now) (c .before .before .before .before .before .before .before .before .before .before .before .before .before .before .before .args .w)) (c .before .before .before .before .before .before .before .before .before .before .before .before .before .before .before .args .ws .now) (c .before .before .before .before .before .before .before .before .before .before .before .before .before .before .before .args .own) (c .before .before .before .before .before .before .before .before .before .before .before .before .before .before .before .args .l) (c .before .before .before .before .before .before .before .before .before .before .get .ensures .0) (c .before .before .before .before .before .before .before .before .before .get2 .ensures .0) (c .before .before .before .before .before .before .before .before .before .before .before .if1 .left) (c .before .before .before .before .before .before .before .before .if3 .taken) (c .before .before .before .before .before .before .put-text .ensures) (c .before .before .put-text2 .ensures)
+returns-3 c = puts-marker (naming (c .before .before .before .before .before .before .before .before .before .before .before .before .before .before .before .args .text .now) (lent (c .before .before .before .before .before .before .before .before .before .before .before .before .before .before .before .args .starts .now) (c .before .before .before .before .before .before .before .before .before .before .before .before .before .before .before .args .lengths .now) (c .before .before .before .before .before .before .before .before .before .before .before .before .before .before .before .args .known))) (c .before .before .before .before .before .before .before .before .before .before .before .before .before .before .before .args .ws .now) (c .before .before .before .before .before .before .before .before .before .before .before .before .before .before .before .args .own) (c .before .before .before .before .before .before .before .before .before .before .before .before .before .before .before .args .l) (c .before .before .before .before .before .before .before .before .before .before .get .ensures .0) (c .before .before .before .before .before .before .before .before .before .get2 .ensures .0) (c .before .before .before .before .before .before .before .before .before .before .before .if1 .left) (c .before .before .before .before .before .before .before .before .if3 .taken) (c .before .before .before .before .before .before .put-text .ensures) (c .before .before .put-text2 .ensures)
 
 put-named-label-requires-2 : tie.Need-put-named-label-requires-2
-put-named-label-requires-2 c κs = let n = first-is-named (naming (c .before .before .before .before .before .before .before .before .args .text .now) (c .before .before .before .before .before .before .before .before .args .w)) (c .before .before .before .before .before .before .before .before .args .ws .now) (c .before .before .before .before .before .before .before .before .args .own) (c .before .before .before .before .before .before .before .before .args .l) (c .before .before .before .get .ensures .0) (c .before .before .get2 .ensures .0) (c .before .before .before .before .if1 .left) (c .before .if3 .left) (c .before .before .before .before .before .before .before .before .pre .1 .1 .1 .is) in (c .before .before .before .before .before .before .before .before .pre .0, (c .before .before .before .before .before .before .before .before .pre .1 .0, record { text = n .name; is = n .named }))
+put-named-label-requires-2 c κs = let n = first-is-named (naming (c .before .before .before .before .before .before .before .before .args .text .now) (lent (c .before .before .before .before .before .before .before .before .args .starts .now) (c .before .before .before .before .before .before .before .before .args .lengths .now) (c .before .before .before .before .before .before .before .before .args .known))) (c .before .before .before .before .before .before .before .before .args .ws .now) (c .before .before .before .before .before .before .before .before .args .own) (c .before .before .before .before .before .before .before .before .args .l) (c .before .before .before .get .ensures .0) (c .before .before .get2 .ensures .0) (c .before .before .before .before .if1 .left) (c .before .if3 .left) (c .before .before .before .before .before .before .before .before .pre .1 .1 .1 .is) in (c .before .before .before .before .before .before .before .before .pre .0, (c .before .before .before .before .before .before .before .before .pre .1 .0, record { text = n .name; is = n .named }))
 
 returns-4 : tie.Need-returns-4
-returns-4 c = puts-first (naming (c .before .before .before .before .before .before .before .before .before .before .before .args .text .now) (c .before .before .before .before .before .before .before .before .before .before .before .args .w)) (c .before .before .before .before .before .before .before .before .before .before .before .args .ws .now) (c .before .before .before .before .before .before .before .before .before .before .before .args .own) (c .before .before .before .before .before .before .before .before .before .before .before .args .l) (c .before .before .before .before .before .before .get .ensures .0) (c .before .before .before .before .before .get2 .ensures .0) (c .before .before .before .before .before .before .before .if1 .left) (c .before .before .before .before .if3 .left) (c .before .before .put-named-label2 .ensures)
+returns-4 c = puts-first (naming (c .before .before .before .before .before .before .before .before .before .before .before .args .text .now) (lent (c .before .before .before .before .before .before .before .before .before .before .before .args .starts .now) (c .before .before .before .before .before .before .before .before .before .before .before .args .lengths .now) (c .before .before .before .before .before .before .before .before .before .before .before .args .known))) (c .before .before .before .before .before .before .before .before .before .before .before .args .ws .now) (c .before .before .before .before .before .before .before .before .before .before .before .args .own) (c .before .before .before .before .before .before .before .before .before .before .before .args .l) (c .before .before .before .before .before .before .get .ensures .0) (c .before .before .before .before .before .get2 .ensures .0) (c .before .before .before .before .before .before .before .if1 .left) (c .before .before .before .before .if3 .left) (c .before .before .put-named-label2 .ensures)
 
 same-length : tie.Need-same-length
 same-length c = search needs

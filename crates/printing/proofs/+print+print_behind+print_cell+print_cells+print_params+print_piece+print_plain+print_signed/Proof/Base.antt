@@ -40,102 +40,102 @@ use Rattle.shown_labels.proofs.put_label.Reads as put-label-reads
 use Rattle.printing.proofs.put_leaf.Reads as put-leaf-reads
 use Rattle.forms.proofs.row_of.Reads as row-of-reads
 
-abbrev pub μ-print : Measures 3 print-kinds.ps ℕ
-μ-print κs a = 8 * a .1 .1 .1 .1 .1 .1 .0 + 5
+abbrev pub μ-print : Measures 5 print-kinds.ps ℕ
+μ-print κs a = 8 * a .1 .1 .1 .1 .1 .1 .1 .1 .0 + 5
 
-abbrev pub μ-print-behind : Measures 3 print-behind-kinds.ps ℕ
-μ-print-behind κs a = 8 * a .1 .1 .1 .1 .1 .1 .0 + 6
+abbrev pub μ-print-behind : Measures 5 print-behind-kinds.ps ℕ
+μ-print-behind κs a = 8 * a .1 .1 .1 .1 .1 .1 .1 .1 .0 + 6
 
-abbrev pub μ-print-cell : Measures 3 print-cell-kinds.ps ℕ
-μ-print-cell κs a = 8 * a .1 .1 .1 .1 .1 .1 .0 + 1
+abbrev pub μ-print-cell : Measures 5 print-cell-kinds.ps ℕ
+μ-print-cell κs a = 8 * a .1 .1 .1 .1 .1 .1 .1 .1 .0 + 1
 
-abbrev pub μ-print-cells : Measures 3 print-cells-kinds.ps ℕ
-μ-print-cells κs a = 8 * a .1 .1 .1 .1 .1 .1 .0 + 2
+abbrev pub μ-print-cells : Measures 5 print-cells-kinds.ps ℕ
+μ-print-cells κs a = 8 * a .1 .1 .1 .1 .1 .1 .1 .1 .0 + 2
 
-abbrev pub μ-print-params : Measures 3 print-params-kinds.ps ℕ
-μ-print-params κs a = 8 * a .1 .1 .1 .1 .1 .1 .0 + 6
+abbrev pub μ-print-params : Measures 5 print-params-kinds.ps ℕ
+μ-print-params κs a = 8 * a .1 .1 .1 .1 .1 .1 .1 .1 .0 + 6
 
-abbrev pub μ-print-piece : Measures 3 print-piece-kinds.ps ℕ
-μ-print-piece κs a = 8 * a .1 .1 .1 .1 .1 .1 .0 + 4
+abbrev pub μ-print-piece : Measures 5 print-piece-kinds.ps ℕ
+μ-print-piece κs a = 8 * a .1 .1 .1 .1 .1 .1 .1 .1 .0 + 4
 
-abbrev pub μ-print-plain : Measures 3 print-plain-kinds.ps ℕ
-μ-print-plain κs a = 8 * a .1 .1 .1 .1 .1 .1 .0 + 3
+abbrev pub μ-print-plain : Measures 5 print-plain-kinds.ps ℕ
+μ-print-plain κs a = 8 * a .1 .1 .1 .1 .1 .1 .1 .1 .0 + 3
 
-abbrev pub μ-print-signed : Measures 3 print-signed-kinds.ps ℕ
-μ-print-signed κs a = 8 * a .1 .1 .1 .1 .1 .1 .0 + 7
+abbrev pub μ-print-signed : Measures 5 print-signed-kinds.ps ℕ
+μ-print-signed κs a = 8 * a .1 .1 .1 .1 .1 .1 .1 .1 .0 + 7
 
-abbrev pub print-at : ℕ → In 3 print-kinds.ps
-print-at t = and 3 print-kinds.ps (is 3 print-kinds.ps μ-print t) print.Pre
+abbrev pub print-at : ℕ → In 5 print-kinds.ps
+print-at t = and 5 print-kinds.ps (is 5 print-kinds.ps μ-print t) print.Pre
 
-abbrev pub print-below : ℕ → In 3 print-kinds.ps
-print-below t = and 3 print-kinds.ps (falls 3 print-kinds.ps _<_ μ-print t) print.Pre
+abbrev pub print-below : ℕ → In 5 print-kinds.ps
+print-below t = and 5 print-kinds.ps (falls 5 print-kinds.ps _<_ μ-print t) print.Pre
 
-abbrev pub print-behind-at : ℕ → In 3 print-behind-kinds.ps
+abbrev pub print-behind-at : ℕ → In 5 print-behind-kinds.ps
 print-behind-at t =
-    and 3 print-behind-kinds.ps (is 3 print-behind-kinds.ps μ-print-behind t) print-behind.Pre
+    and 5 print-behind-kinds.ps (is 5 print-behind-kinds.ps μ-print-behind t) print-behind.Pre
 
-abbrev pub print-behind-below : ℕ → In 3 print-behind-kinds.ps
+abbrev pub print-behind-below : ℕ → In 5 print-behind-kinds.ps
 print-behind-below t =
     and
-    3
+    5
     print-behind-kinds.ps
-    (falls 3 print-behind-kinds.ps _<_ μ-print-behind t)
+    (falls 5 print-behind-kinds.ps _<_ μ-print-behind t)
     print-behind.Pre
 
-abbrev pub print-cell-at : ℕ → In 3 print-cell-kinds.ps
+abbrev pub print-cell-at : ℕ → In 5 print-cell-kinds.ps
 print-cell-at t =
-    and 3 print-cell-kinds.ps (is 3 print-cell-kinds.ps μ-print-cell t) print-cell.Pre
+    and 5 print-cell-kinds.ps (is 5 print-cell-kinds.ps μ-print-cell t) print-cell.Pre
 
-abbrev pub print-cell-below : ℕ → In 3 print-cell-kinds.ps
+abbrev pub print-cell-below : ℕ → In 5 print-cell-kinds.ps
 print-cell-below t =
-    and 3 print-cell-kinds.ps (falls 3 print-cell-kinds.ps _<_ μ-print-cell t) print-cell.Pre
+    and 5 print-cell-kinds.ps (falls 5 print-cell-kinds.ps _<_ μ-print-cell t) print-cell.Pre
 
-abbrev pub print-cells-at : ℕ → In 3 print-cells-kinds.ps
+abbrev pub print-cells-at : ℕ → In 5 print-cells-kinds.ps
 print-cells-at t =
-    and 3 print-cells-kinds.ps (is 3 print-cells-kinds.ps μ-print-cells t) print-cells.Pre
+    and 5 print-cells-kinds.ps (is 5 print-cells-kinds.ps μ-print-cells t) print-cells.Pre
 
-abbrev pub print-cells-below : ℕ → In 3 print-cells-kinds.ps
+abbrev pub print-cells-below : ℕ → In 5 print-cells-kinds.ps
 print-cells-below t =
-    and 3 print-cells-kinds.ps (falls 3 print-cells-kinds.ps _<_ μ-print-cells t) print-cells.Pre
+    and 5 print-cells-kinds.ps (falls 5 print-cells-kinds.ps _<_ μ-print-cells t) print-cells.Pre
 
-abbrev pub print-params-at : ℕ → In 3 print-params-kinds.ps
+abbrev pub print-params-at : ℕ → In 5 print-params-kinds.ps
 print-params-at t =
-    and 3 print-params-kinds.ps (is 3 print-params-kinds.ps μ-print-params t) print-params.Pre
+    and 5 print-params-kinds.ps (is 5 print-params-kinds.ps μ-print-params t) print-params.Pre
 
-abbrev pub print-params-below : ℕ → In 3 print-params-kinds.ps
+abbrev pub print-params-below : ℕ → In 5 print-params-kinds.ps
 print-params-below t =
     and
-    3
+    5
     print-params-kinds.ps
-    (falls 3 print-params-kinds.ps _<_ μ-print-params t)
+    (falls 5 print-params-kinds.ps _<_ μ-print-params t)
     print-params.Pre
 
-abbrev pub print-piece-at : ℕ → In 3 print-piece-kinds.ps
+abbrev pub print-piece-at : ℕ → In 5 print-piece-kinds.ps
 print-piece-at t =
-    and 3 print-piece-kinds.ps (is 3 print-piece-kinds.ps μ-print-piece t) print-piece.Pre
+    and 5 print-piece-kinds.ps (is 5 print-piece-kinds.ps μ-print-piece t) print-piece.Pre
 
-abbrev pub print-piece-below : ℕ → In 3 print-piece-kinds.ps
+abbrev pub print-piece-below : ℕ → In 5 print-piece-kinds.ps
 print-piece-below t =
-    and 3 print-piece-kinds.ps (falls 3 print-piece-kinds.ps _<_ μ-print-piece t) print-piece.Pre
+    and 5 print-piece-kinds.ps (falls 5 print-piece-kinds.ps _<_ μ-print-piece t) print-piece.Pre
 
-abbrev pub print-plain-at : ℕ → In 3 print-plain-kinds.ps
+abbrev pub print-plain-at : ℕ → In 5 print-plain-kinds.ps
 print-plain-at t =
-    and 3 print-plain-kinds.ps (is 3 print-plain-kinds.ps μ-print-plain t) print-plain.Pre
+    and 5 print-plain-kinds.ps (is 5 print-plain-kinds.ps μ-print-plain t) print-plain.Pre
 
-abbrev pub print-plain-below : ℕ → In 3 print-plain-kinds.ps
+abbrev pub print-plain-below : ℕ → In 5 print-plain-kinds.ps
 print-plain-below t =
-    and 3 print-plain-kinds.ps (falls 3 print-plain-kinds.ps _<_ μ-print-plain t) print-plain.Pre
+    and 5 print-plain-kinds.ps (falls 5 print-plain-kinds.ps _<_ μ-print-plain t) print-plain.Pre
 
-abbrev pub print-signed-at : ℕ → In 3 print-signed-kinds.ps
+abbrev pub print-signed-at : ℕ → In 5 print-signed-kinds.ps
 print-signed-at t =
-    and 3 print-signed-kinds.ps (is 3 print-signed-kinds.ps μ-print-signed t) print-signed.Pre
+    and 5 print-signed-kinds.ps (is 5 print-signed-kinds.ps μ-print-signed t) print-signed.Pre
 
-abbrev pub print-signed-below : ℕ → In 3 print-signed-kinds.ps
+abbrev pub print-signed-below : ℕ → In 5 print-signed-kinds.ps
 print-signed-below t =
     and
-    3
+    5
     print-signed-kinds.ps
-    (falls 3 print-signed-kinds.ps _<_ μ-print-signed t)
+    (falls 5 print-signed-kinds.ps _<_ μ-print-signed t)
     print-signed.Pre
 
 abbrev pub print-claims : ℕ → print-lts.Claims

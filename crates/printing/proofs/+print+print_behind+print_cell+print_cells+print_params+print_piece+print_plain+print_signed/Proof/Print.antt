@@ -1,4 +1,5 @@
 use native.Mathlib.Omega.{arith}
+use Rattle.words.specs.Table.{lent}
 use Rattle.naming.specs.Naming.{naming}
 use Rattle.printing.proofs.CycleLaws.{Rowing, rowing-first, rowing-piece, rowing-next, rowing-past, rowing-end}
 -- The answers of print.
@@ -9,10 +10,10 @@ use Rattle.printing.proofs.print_piece.Reads as print-piece
 use Rattle.printing.proofs.+print+print_behind+print_cell+print_cells+print_params+print_piece+print_plain+print_signed.Proof.Base.{print-at, print-claims}
 
 abbrev pub print-Inv-loop : print-lts.InvT-loop
-print-Inv-loop out₀ at room ws text w p row₀ r₀ out row r = Rowing (naming text w) ws p row₀ room out₀ at out row r
+print-Inv-loop out₀ at room ws text starts lengths known p row₀ r₀ out row r = Rowing (naming text (lent starts lengths known)) ws p row₀ room out₀ at out row r
 
 abbrev pub print-μ-loop : print-lts.MeasureT-loop
-print-μ-loop out₀ at room ws text w p row₀ r₀ out row r = row
+print-μ-loop out₀ at room ws text starts lengths known p row₀ r₀ out row r = row
 
 pub print-row-of-requires : (t : ℕ) → print-lts.Need-row-of-requires (print-claims t) (print-at t) print.Post print-Inv-loop print-μ-loop
 print-row-of-requires t c κs = (c .before .before .before .pre .1 .1 .0, c .before .before .before .pre .1 .1 .1)

@@ -1,5 +1,6 @@
 use native.Mathlib.Omega.{arith}
 use Prim.Native.Nat.{_-_, ℕ, _<_}
+use Rattle.words.specs.Table.{lent}
 use Rattle.naming.specs.Naming.{naming}
 use Rattle.printing.proofs.CycleLaws.{Celling, celling-first, cell-below, cell-some, labels-some, celling-next, celling-past, celling-end, world-below}
 -- The answers of print-cells.
@@ -9,10 +10,10 @@ use Rattle.printing.proofs.+print+print_behind+print_cell+print_cells+p
 use Rattle.printing.proofs.+print+print_behind+print_cell+print_cells+print_params+print_piece+print_plain+print_signed.Proof.Base.{print-cells-at, print-cells-claims}
 
 abbrev pub print-cells-Inv-loop : print-cells-lts.InvT-loop
-print-cells-Inv-loop out₀ at room ws text w p count sep shown host₀ k₀ labels₀ r₀ i₀ out host k labels r i = Celling (naming text w) ws p k₀ count sep shown labels₀ room out₀ at out host k labels r i
+print-cells-Inv-loop out₀ at room ws text starts lengths known p count sep shown host₀ k₀ labels₀ r₀ i₀ out host k labels r i = Celling (naming text (lent starts lengths known)) ws p k₀ count sep shown labels₀ room out₀ at out host k labels r i
 
 abbrev pub print-cells-μ-loop : print-cells-lts.MeasureT-loop
-print-cells-μ-loop out₀ at room ws text w p count sep shown host₀ k₀ labels₀ r₀ i₀ out host k labels r i = count - i
+print-cells-μ-loop out₀ at room ws text starts lengths known p count sep shown host₀ k₀ labels₀ r₀ i₀ out host k labels r i = count - i
 
 pub print-cells-loop-holds : (t : ℕ) → print-cells-lts.Need-loop-holds (print-cells-claims t) (print-cells-at t) print-cells.Post print-cells-Inv-loop print-cells-μ-loop
 print-cells-loop-holds t c = celling-first (c .before .before .before .pre .1 .0) (c .before .before .before .pre .1 .1 .1 .0 .0) (c .before .before .before .pre .1 .1 .1 .1 .0) (c .before .before .before .pre .1 .1 .1 .1 .1)

@@ -2,6 +2,7 @@ use native.Mathlib.Omega.{arith}
 use Prim.Native.Nat.{_≤_, ℕ, _<_}
 use borrow.Author.Needs.{needs}
 use mathlib.Core.Path.{sym, subst}
+use Rattle.words.specs.Table.{lent}
 use Rattle.naming.specs.Naming.{naming}
 use Rattle.records.specs.Holds.{Named}
 use Rattle.printing.proofs.CycleLaws.{puts-by, puts-text, prints-at, world-below, labels-reach, printing-to, listed-to, list-fits}
@@ -27,10 +28,10 @@ pub print-plain-get-requires : (t : ℕ) → print-plain-lts.Need-get-requires (
 print-plain-get-requires t c κs = (c .before .before .before .before .before .pre .1 .1 .0 .long, omega (arith, c .if2 .taken))
 
 pub print-plain-put-named-requires : (t : ℕ) → print-plain-lts.Need-put-named-requires (print-plain-claims t) (print-plain-at t) print-plain.Post
-print-plain-put-named-requires t c κs = (c .before .before .before .before .before .before .before .pre .1 .0, (c .before .before .before .before .before .before .before .pre .1 .1 .0 .known, record { text = c .before .before .before .before .before .before .before .pre .1 .1 .1 .text; is = subst (λ (j : ℕ). Named (naming (c .before .before .before .before .before .before .before .args .text .now) (c .before .before .before .before .before .before .before .args .w)) j (c .before .before .before .before .before .before .before .pre .1 .1 .1 .text)) (sym (c .before .get .ensures .0)) (c .before .before .before .before .before .before .before .pre .1 .1 .1 .is .name (c .before .before .if2 .taken) .1) }))
+print-plain-put-named-requires t c κs = (c .before .before .before .before .before .before .before .pre .1 .0, (c .before .before .before .before .before .before .before .pre .1 .1 .0 .known, record { text = c .before .before .before .before .before .before .before .pre .1 .1 .1 .text; is = subst (λ (j : ℕ). Named (naming (c .before .before .before .before .before .before .before .args .text .now) (lent (c .before .before .before .before .before .before .before .args .starts .now) (c .before .before .before .before .before .before .before .args .lengths .now) (c .before .before .before .before .before .before .before .args .known))) j (c .before .before .before .before .before .before .before .pre .1 .1 .1 .text)) (sym (c .before .get .ensures .0)) (c .before .before .before .before .before .before .before .pre .1 .1 .1 .is .name (c .before .before .if2 .taken) .1) }))
 
 pub print-plain-returns-2 : (t : ℕ) → print-plain-lts.Need-returns-2 (print-plain-claims t) (print-plain-at t) print-plain.Post
-print-plain-returns-2 t c = puts-by (λ s h. subst (λ (j : ℕ). Named (naming (c .before .before .before .before .before .before .before .before .before .before .args .text .now) (c .before .before .before .before .before .before .before .before .before .before .args .w)) j s) (sym (c .before .before .before .before .get .ensures .0)) (h .name (c .before .before .before .before .before .if2 .taken) .1)) (c .before .before .put-named .ensures)
+print-plain-returns-2 t c = puts-by (λ s h. subst (λ (j : ℕ). Named (naming (c .before .before .before .before .before .before .before .before .before .before .args .text .now) (lent (c .before .before .before .before .before .before .before .before .before .before .args .starts .now) (c .before .before .before .before .before .before .before .before .before .before .args .lengths .now) (c .before .before .before .before .before .before .before .before .before .before .args .known))) j s) (sym (c .before .before .before .before .get .ensures .0)) (h .name (c .before .before .before .before .before .if2 .taken) .1)) (c .before .before .put-named .ensures)
 
 pub print-plain-get-requires-2 : (t : ℕ) → print-plain-lts.Need-get-requires-2 (print-plain-claims t) (print-plain-at t) print-plain.Post
 print-plain-get-requires-2 t c κs = (c .before .before .before .before .before .before .pre .1 .1 .0 .long, omega (arith, c .if3 .taken, c .before .if2 .left))
