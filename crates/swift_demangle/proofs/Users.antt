@@ -4,53 +4,24 @@ use mathlib.Core.Path.{_≡_, refl, sym, ap, subst, _∙_}
 use mathlib.Core.Bool.{Bool, true, false, not}
 use mathlib.Core.List.{List, [], _++_}
 use mathlib.Core.Option.{Option, some, none}
-use Prim.Native.Nat.{ℕ, _+_, _-_, _*_, _≤_, _<_}
+use Prim.Native.Nat.{ℕ, _*_, _≤_, _<_}
 use native.Mathlib.Omega.{arith}
 use lib.Dec.{T, eqb, leb, leb→le, nleb→lt}
 use lib.ListN.{length, take, drop}
 use lib.Seq.{take-append-seam, drop-append-seam}
 use Rattle.definition.specs.Base.{given, if_then_else_}
 use Rattle.definition.specs.Text.{Text, Symbol, ill-formed, split}
-use Rattle.definition.specs.Machine.{Machine}
-use Rattle.definition.specs.Budget as B
 use Rattle.definition.specs.Kind as K
 use Rattle.definition.specs.Calls as Calls
-use Rattle.definition.specs.Calls.{refusal, accepted, within, good-ceiling, checked, symbol, whole-text, check-needs, End, ran, stopped, ended, all-turns, symbol-kind, single, finished}
+use Rattle.definition.specs.Calls.{refusal, within, good-ceiling, checked, symbol, whole-text, check-needs, symbol-kind}
 use Rattle.definition.specs.Reading as Reading
 use Rattle.definition.specs.Check as Check
 use Rattle.definition.specs.Enums.{values}
 use Rattle.definition.specs.declared.Answer.{Answer}
-use Rattle.definition.proofs.RunNumbers.{InRun, read-numbers, check-numbers}
 use Rattle.endings.specs.Answers.{Answers}
+use Rattle.calls.proofs.Runs.{Plain, refusal-plain, read-ran, read-k-ran, check-ran, check-k-ran}
 
 -- THE DEFINITION'S ANSWERS, BEFORE 12
--- a refusal writes nothing; the length is that of what is written; the number is 0 to 11
-pub record Plain (a : Calls.Answer) : Type 0 where
-  pub silent : T (not (eqb (a .values .number) 0)) → a .written ≡ []
-  pub long : a .values .length ≡ length (a .written)
-  pub below : a .values .number ≤ 11
-
-pub refusal-plain : (n p : ℕ) → n ≤ 11 → Plain (refusal n p)
-unfolding refusal
-refusal-plain n p h = record { silent = λ _. refl; long = refl; below = h }
-
-accepted-plain : (b : B.Budget) (text : List ℕ) → Plain (accepted b text)
-unfolding accepted
-accepted-plain b text = record { silent = λ h. absurd h; long = refl; below = omega arith }
-
-finished-plain : {A W : Type 0} (kind : A → ℕ) (takes : ℕ → Bool) (text : A → List ℕ) (s : Symbol) (m : Machine A W) → Plain (finished kind takes text s m)
-unfolding finished
-finished-plain {A} kind takes text s m = go (single kind takes (m .stack))
-  where
-    go : (o : Option A) → Plain (given o (refusal 11 (s .start + length (s .body))) (λ n. accepted (m .budget) (text n)))
-    go none = refusal-plain 11 (s .start + length (s .body)) (omega arith)
-    go (some n) = accepted-plain (m .budget) (text n)
-
-ended-plain : {S : Type 0} (s : Symbol) (e : End S) (read : S → Calls.Answer) → ((r left : ℕ) → e ≡ stopped r left → InRun r) → ((m : S) → Plain (read m)) → Plain (ended s e read)
-unfolding ended
-ended-plain s (ran m) read h k = k m
-ended-plain s (stopped r left) read h k = let q = h r left refl .1 in refusal-plain r (s .start + (length (s .body) - left)) (omega (arith, q))
-
 symbol-plain : (t : Text) (read : Symbol → Calls.Answer) → ((s : Symbol) → Plain (read s)) → Plain (symbol t read)
 unfolding symbol
 symbol-plain t read h = go (split t)
@@ -70,22 +41,6 @@ checked-plain need N workspace t rest h = go (good-ceiling N) (leb (need * N) wo
     go true true false o = refusal-plain 3 0 (omega arith)
     go true true true (some p) = refusal-plain 4 p (omega arith)
     go true true true none = h
-
-read-plain : (N : ℕ) (takes : ℕ → Bool) (s : Symbol) → Plain (Reading.whole N takes s)
-unfolding Reading.whole
-read-plain N takes s = ended-plain s _ _ (read-numbers N all-turns (s .body)) (λ m. finished-plain _ takes _ s m)
-
-read-k-plain : (N k : ℕ) (s : Symbol) → Plain (Reading.stopped-after N k s)
-unfolding Reading.stopped-after
-read-k-plain N k s = ended-plain s _ _ (read-numbers N k (s .body)) (λ m. accepted-plain (m .budget) _)
-
-check-plain : (N : ℕ) (takes : ℕ → Bool) (s : Symbol) → Plain (Check.whole N takes s)
-unfolding Check.whole
-check-plain N takes s = ended-plain s _ _ (check-numbers N all-turns (s .body)) (λ m. finished-plain _ takes _ s m)
-
-check-k-plain : (N k : ℕ) (s : Symbol) → Plain (Check.stopped-after N k s)
-unfolding Check.stopped-after
-check-k-plain N k s = ended-plain s _ _ (check-numbers N k (s .body)) (λ m. accepted-plain (m .budget) _)
 
 -- WHAT A USER READS
 -- the front of the output slice is the text, as long as the answer says, and the rest is as it was
@@ -163,19 +118,19 @@ module _ (a : Calls.Answer) (h : Plain a) {out out′ : List ℕ} {r : Answer} w
 module _ (t : Text) (N w : ℕ) where
   pub symbol-read-plain : Plain (Reading.read t N w)
   unfolding Reading.read
-  symbol-read-plain = checked-plain 64 N w t _ (symbol-plain t _ (read-plain N symbol-kind))
+  symbol-read-plain = checked-plain 64 N w t _ (symbol-plain t _ (λ s. read-ran N symbol-kind s .plain))
 
   pub type-read-plain : Plain (Reading.read-type t N w)
   unfolding Reading.read-type
-  type-read-plain = checked-plain 64 N w t _ (read-plain N K.is-type (whole-text t))
+  type-read-plain = checked-plain 64 N w t _ (read-ran N K.is-type (whole-text t) .plain)
 
   pub symbol-read-k-plain : (k : ℕ) → Plain (Reading.read-stopped k t N w)
   unfolding Reading.read-stopped
-  symbol-read-k-plain k = checked-plain 64 N w t _ (symbol-plain t _ (read-k-plain N k))
+  symbol-read-k-plain k = checked-plain 64 N w t _ (symbol-plain t _ (λ s. read-k-ran N k s .plain))
 
   pub type-read-k-plain : (k : ℕ) → Plain (Reading.read-type-stopped k t N w)
   unfolding Reading.read-type-stopped
-  type-read-k-plain k = checked-plain 64 N w t _ (read-k-plain N k (whole-text t))
+  type-read-k-plain k = checked-plain 64 N w t _ (read-k-ran N k (whole-text t) .plain)
 
   -- the stopped checks before 12
   abbrev pub symbol-check : ℕ → Calls.Answer
@@ -185,10 +140,10 @@ module _ (t : Text) (N w : ℕ) where
   type-check k = checked check-needs N w t (Check.stopped-after N k (whole-text t))
 
   pub symbol-check-k-plain : (k : ℕ) → Plain (symbol-check k)
-  symbol-check-k-plain k = checked-plain 8 N w t _ (symbol-plain t _ (check-k-plain N k))
+  symbol-check-k-plain k = checked-plain 8 N w t _ (symbol-plain t _ (λ s. check-k-ran N k s .plain))
 
   pub type-check-k-plain : (k : ℕ) → Plain (type-check k)
-  type-check-k-plain k = checked-plain 8 N w t _ (check-k-plain N k (whole-text t))
+  type-check-k-plain k = checked-plain 8 N w t _ (check-k-ran N k (whole-text t) .plain)
 
 module _ (t : Text) (N w : ℕ) {out out′ : List ℕ} {r : Answer} where
   -- a reading: its text is the definition's
@@ -223,11 +178,11 @@ module _ (t : Text) (N w : ℕ) (r : Answer) where
   pub shape-number : values r ≡ Check.shape t N w .values → values r .number ≤ 11
   unfolding Check.shape
   shape-number e =
-      let p = checked-plain 8 N w t _ (symbol-plain t _ (check-plain N symbol-kind)) .below in
+      let p = checked-plain 8 N w t _ (symbol-plain t _ (λ s. check-ran N symbol-kind s .plain)) .below in
       subst (λ (v : Calls.Values). v .number ≤ 11) (sym e) p
 
   pub shape-type-number : values r ≡ Check.shape-type t N w .values → values r .number ≤ 11
   unfolding Check.shape-type
   shape-type-number e =
-      let p = checked-plain 8 N w t _ (check-plain N K.is-type (whole-text t)) .below in
+      let p = checked-plain 8 N w t _ (check-ran N K.is-type (whole-text t) .plain) .below in
       subst (λ (v : Calls.Values). v .number ≤ 11) (sym e) p
