@@ -13,14 +13,14 @@ use Rattle.definition.specs.Base.{opened as opened₀}
 use Rattle.definition.proofs.SameText.{both, same→≡}
 use Rattle.output.specs.Sink.{low-bytes}
 use Rattle.fixed_names.specs.Fixed.{fixed-names, fixed, texts, numbered}
-use Rattle.fixed_names.specs.Words.{words, places, spelt, count, Named}
+use Rattle.fixed_names.specs.Words.{words, places, spelt, word-count, Named}
 
 -- what the number p says of a name's place is right
 abbrev Stands : ℕ → String → Type 0
-Stands p s = (spelt (p % 64) (drop (p / 64) words) ≡ bytes s) × (8 * (p / 64) + p % 64 ≤ 8 * count)
+Stands p s = (spelt (p % 64) (drop (p / 64) words) ≡ bytes s) × (8 * (p / 64) + p % 64 ≤ 8 * word-count)
 
 abbrev stands : ℕ → String → Bool
-stands p s = same (spelt (p % 64) (drop (p / 64) words)) (bytes s) && leb (8 * (p / 64) + p % 64) (8 * count)
+stands p s = same (spelt (p % 64) (drop (p / 64) words)) (bytes s) && leb (8 * (p / 64) + p % 64) (8 * word-count)
 
 -- a test of all names
 unfoldable right : List ℕ → List String → Bool
@@ -41,7 +41,7 @@ right-at [] (s ∷ ss) n h = absurd h
 right-at (p ∷ ps) [] n h = absurd h
 right-at (p ∷ ps) (s ∷ ss) zero h =
     let a = both (stands p s) (right ps ss) h .0 in
-    let b = both (same (spelt (p % 64) (drop (p / 64) words)) (bytes s)) (leb (8 * (p / 64) + p % 64) (8 * count)) a in
+    let b = both (same (spelt (p % 64) (drop (p / 64) words)) (bytes s)) (leb (8 * (p / 64) + p % 64) (8 * word-count)) a in
     (same→≡ (spelt (p % 64) (drop (p / 64) words)) (bytes s) (b .0), leb→le _ _ (b .1))
 right-at (p ∷ ps) (s ∷ ss) (suc n) h = right-at ps ss n (both (stands p s) (right ps ss) h .1)
 

@@ -186,8 +186,8 @@ word-table =
 unfoldable pub words : List ℕ
 words = word-table
 
-abbrev pub count : ℕ
-count = 458
+abbrev pub word-count : ℕ
+word-count = 458
 
 -- of each name 64 times the place of its first word, and its length
 abbrev pub place-table : List ℕ
@@ -222,4 +222,4 @@ spelt n (w ∷ ws) = low-bytes (min n 8) w ++ spelt (n - 8) ws
 -- the part p of the words is the name of the number n
 pub record Named (n : ℕ) (p : Part) : Type 0 where
   pub is : spelt (p .len) (drop (p .first) words) ≡ bytes (numbered n)
-  pub inside : 8 * p .first + p .len ≤ 8 * count
+  pub inside : 8 * p .first + p .len ≤ 8 * word-count

@@ -5,7 +5,7 @@ use mathlib.Core.List.{List, [], _∷_, _++_, append-nil}
 use Prim.Native.Nat.{ℕ, zero, suc, _+_, _-_, _≤_, _<_}
 use native.Mathlib.Omega.{arith}
 use native.Mathlib.Numerals.{add-one}
-use lib.ListN.{length, getD, take, drop}
+use lib.ListN.{getD}
 use Rattle.definition.specs.Base.{Name, bytes, decimal}
 use Rattle.definition.specs.Operators.{suspend-resume-text}
 use Rattle.definition.specs.Print.{join, generic-param-name, param-names, effects}

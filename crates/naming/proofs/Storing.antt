@@ -9,7 +9,7 @@ use lib.Seq.{sets, drop-cons}
 use Rattle.definition.specs.Base.{Name, bytes}
 use Rattle.output.specs.Sink.{low-bytes, low-length, sets-then}
 use Rattle.fixed_names.specs.Fixed.{numbered}
-use Rattle.fixed_names.specs.Words.{words, count, spelt, Named}
+use Rattle.fixed_names.specs.Words.{words, word-count, spelt, Named}
 use Rattle.fixed_names.specs.declared.Part.{Part}
 
 -- no bytes
@@ -34,11 +34,11 @@ module _ (ws : List ℕ) (i n : ℕ) (h : i < length ws) where
       let d : low-bytes n (getD ws i 0) ++ spelt (n - 8) (drop (i + 1) ws) ≡ spelt n (drop i ws) = ap (λ (m : ℕ). low-bytes m (getD ws i 0) ++ spelt (n - 8) (drop (i + 1) ws)) (sym e) ∙ spelt-from in
       sym (append-nil _) ∙ ap (λ (s : Name). low-bytes n (getD ws i 0) ++ s) (sym (ap (λ (m : ℕ). spelt m (drop (i + 1) ws)) z ∙ spelt-none (drop (i + 1) ws))) ∙ d
 
-words-long : length words ≡ count
+words-long : length words ≡ word-count
 unfolding words
 words-long = refl
 
-words-rest : (i n : ℕ) → 8 * i + n ≤ 8 * count → n < 8 → low-bytes n (getD words i 0) ≡ spelt n (drop i words)
+words-rest : (i n : ℕ) → 8 * i + n ≤ 8 * word-count → n < 8 → low-bytes n (getD words i 0) ≡ spelt n (drop i words)
 unfolding low-bytes
 words-rest i zero h k = sym (spelt-none (drop i words))
 words-rest i (suc n) h k = let l : i < length words = omega (arith, words-long) in spelt-rest words i (suc n) l k
@@ -56,7 +56,7 @@ name-long {n} {p} h =
     let l : p .len ≤ 8 * length (drop (p .first) words) = omega (arith, h .inside, length-drop (p .first) words, words-long) in
     sym (ap length (h .is)) ∙ spelt-long (drop (p .first) words) (p .len) l
 
-module _ (o : List ℕ) (at i n : ℕ) {w : ℕ} (e : w ≡ getD words i 0) (h : 8 * i + n ≤ 8 * count) where
+module _ (o : List ℕ) (at i n : ℕ) {w : ℕ} (e : w ≡ getD words i 0) (h : 8 * i + n ≤ 8 * word-count) where
   -- one more word, and the bytes that are left of the last
   pub stored-word : 8 ≤ n → sets (sets o at (low-bytes 8 w)) (at + 8) (spelt (n - 8) (drop (i + 1) words)) ≡ sets o at (spelt n (drop i words))
   stored-word k =

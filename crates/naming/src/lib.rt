@@ -7,7 +7,7 @@ ghost use Rattle.definition.specs.Base.{Name, bytes, same};
 ghost use Rattle.definition.specs.Operators.{suspend-resume-text};
 ghost use Rattle.definition.specs.Print.{join, param-names, effects};
 ghost use Rattle.fixed_names.specs.Fixed.{fixed, numbered};
-ghost use Rattle.fixed_names.specs.Words.{words, count, spelt};
+ghost use Rattle.fixed_names.specs.Words.{words, word-count, spelt};
 ghost use Rattle.output.specs.Sink.{Room, Wrote};
 ghost use Rattle.words.specs.Table.{lent};
 ghost use Rattle.records.specs.Holds.{Named};
@@ -25,7 +25,7 @@ use spelling::put_name;
 // Stores the first len bytes of the words from first on.
 fn store_words(out: &mut [u8], at: usize, first: usize, len: usize)
     requires { ⌜ at + len ≤ length (now out) ⌝ }
-    requires { ⌜ 8 * first + len ≤ 8 * count ⌝ }
+    requires { ⌜ 8 * first + len ≤ 8 * word-count ⌝ }
     ensures { λ _. ⌜ now (out .exit) ≡ sets (now (out .entry)) at (spelt len (drop first words)) ⌝ }
 {
     let mut place = at;

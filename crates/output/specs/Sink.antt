@@ -5,7 +5,7 @@ use mathlib.Core.List.{List, [], _∷_, _++_, append-assoc, append-nil}
 use Prim.Native.Nat.{ℕ, zero, suc, _+_, _-_, _/_, _%_, _≤_, _<_, min, _^_}
 use native.Mathlib.Omega.{arith}
 use native.Mathlib.Nat.{div-div-eq-div-mul}
-use native.Mathlib.Numerals.{add-one}
+use native.Mathlib.Numerals.{add-one, unary-clauses}
 use lib.ListN.{length, take, drop, set, length-append, length-take, length-set, take-append-drop}
 use lib.Seq.{take-at, drop-at, drop-drop, set-split, append-snoc, sets, sets-eq, length-sets}
 
@@ -151,10 +151,13 @@ pub low-done : (o : List ℕ) (at n i w : ℕ) → n ≤ i → sets o at (low-by
 unfolding low-bytes
 low-done o at n i w h = let e : n - i ≡ 0 = omega arith in rw e
 
--- the eight bytes by one division each
-pub low-eight : (w : ℕ) → w % 256 ∷ w / 256 % 256 ∷ w / 65536 % 256 ∷ w / 16777216 % 256 ∷ w / 4294967296 % 256 ∷ w / 1099511627776 % 256 ∷ w / 281474976710656 % 256 ∷ w / 72057594037927936 % 256 ∷ [] ≡ low-bytes 8 w
+-- the eight bytes of a word, by one division each
+low-eight : (w : ℕ) → w % 256 ∷ w / 256 % 256 ∷ w / 65536 % 256 ∷ w / 16777216 % 256 ∷ w / 4294967296 % 256 ∷ w / 1099511627776 % 256 ∷ w / 281474976710656 % 256 ∷ w / 72057594037927936 % 256 ∷ [] ≡ low-bytes 8 w
 unfolding low-bytes
 low-eight w = rw (div-div-eq-div-mul w 256 256, div-div-eq-div-mul w 65536 256, div-div-eq-div-mul w 16777216 256, div-div-eq-div-mul w 4294967296 256, div-div-eq-div-mul w 1099511627776 256, div-div-eq-div-mul w 281474976710656 256)
+
+pub stored-eight : (o : List ℕ) (at w : ℕ) → set (set (set (set (set (set (set (set o at (w % 256)) (at + 1) (w / 256 % 256)) (at + 2) (w / 65536 % 256)) (at + 3) (w / 16777216 % 256)) (at + 4) (w / 4294967296 % 256)) (at + 5) (w / 1099511627776 % 256)) (at + 6) (w / 281474976710656 % 256)) (at + 7) (w / 72057594037927936 % 256) ≡ sets o at (low-bytes 8 w)
+stored-eight o at w = simp unary-clauses (ap (sets o at) (low-eight w))
 
 -- bytes stored within the slice
 pub wrote-stored : {room at r : ℕ} {o o' : List ℕ} (s : List ℕ) → Room room o at → o' ≡ sets o at s → r ≡ at + length s → r ≤ length o → Wrote room o o' at s r

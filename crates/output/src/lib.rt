@@ -1,4 +1,4 @@
-// Appending bytes to a lent slice, measured against room (specs/Sink.antt). With an empty slice it only measures.
+// Appending bytes to a lent slice, measured against room (specs/Sink.antt), which with an empty slice only measures; and storing the bytes of a word in it.
 ghost use mathlib.Core.Path.{_≡_};
 ghost use Prim.Native.Nat.{_+_, _≤_};
 ghost use mathlib.Core.List.{_++_, _∷_, []};

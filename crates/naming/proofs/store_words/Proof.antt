@@ -1,5 +1,5 @@
 -- `naming::store_words` meets its contract: storing the bytes that are left at the place that was reached gives what storing all gives. Assumes nothing.
-use mathlib.Core.Path.{_≡_, refl, sym, ap, _∙_}
+use mathlib.Core.Path.{_≡_, refl, ap, _∙_}
 use mathlib.Core.List.{List}
 use Prim.Native.Nat.{ℕ, _+_, _*_, _-_, _≤_}
 use native.Mathlib.Omega.{arith}
@@ -7,13 +7,13 @@ use borrow.Author.Needs.{needs}
 use lib.ListN.{length, drop}
 use lib.Seq.{sets, length-sets}
 use Rattle.output.specs.Sink.{low-bytes}
-use Rattle.fixed_names.specs.Words.{words, count, spelt}
+use Rattle.fixed_names.specs.Words.{words, word-count, spelt}
 use Rattle.naming.proofs.Storing.{stored-word, stored-rest}
 use Rattle.naming.proofs.store_words.Statement.{statement}
 use Rattle.naming.proofs.store_words.Tie as tie
 
 abbrev Inv-loop : tie.InvT-loop
-Inv-loop out₀ at first len place₀ i₀ left₀ out place i left = (place + left ≤ length out) × (8 * i + left ≤ 8 * count) × (length out ≡ length out₀) × (sets out place (spelt left (drop i words)) ≡ sets out₀ at (spelt len (drop first words)))
+Inv-loop out₀ at first len place₀ i₀ left₀ out place i left = (place + left ≤ length out) × (8 * i + left ≤ 8 * word-count) × (length out ≡ length out₀) × (sets out place (spelt left (drop i words)) ≡ sets out₀ at (spelt len (drop first words)))
 
 abbrev μ-loop : tie.MeasureT-loop
 μ-loop out₀ at first len place₀ i₀ left₀ out place i left = left

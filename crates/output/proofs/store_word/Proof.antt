@@ -1,10 +1,7 @@
 -- `output::store_word` meets its contract. Assumes nothing.
-use mathlib.Core.Path.{ap}
 use native.Mathlib.Omega.{arith}
-use native.Mathlib.Numerals.{unary-clauses}
 use lib.ListN.{length-set}
-use lib.Seq.{sets}
-use Rattle.output.specs.Sink.{low-eight}
+use Rattle.output.specs.Sink.{stored-eight}
 use borrow.Author.Needs.{needs}
 use Rattle.output.proofs.store_word.Statement.{statement}
 use Rattle.output.proofs.store_word.Tie as tie
@@ -82,7 +79,7 @@ same-length : tie.Need-same-length
 same-length c = search needs
 
 returns : tie.Need-returns
-returns c = simp unary-clauses (ap (sets (c .args .out .now) (c .args .at)) (low-eight (c .args .w)))
+returns c = stored-eight (c .args .out .now) (c .args .at) (c .args .w)
 
 pub store-word-spec : {M : Type 1} → statement M
 store-word-spec =
