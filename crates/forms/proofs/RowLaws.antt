@@ -348,5 +348,5 @@ module _ {nm : Names} {ws : List ℕ} {p r : ℕ} (F : FormIs nm ws p r) where
       (more (omega arith) (here (omega arith) (L-qualifier l x qs (h .body .3)))
       (more (omega arith) (T-piece 0 (omega arith)) (more (omega arith) (N-piece 4 (omega arith) (h .body .1)) (more (omega arith) (T-piece 1 (omega arith)) (one (omega arith) (omega arith) (C-piece q 7 (omega arith) (h .body .4)))))))))))
 
-  pub rowed : Rowed nm ws p (getD rows r 0)
-  rowed = record { each = λ s h. pieces-is (sym (h .is)) (pieces-of (h .tree) (h .lies)) }
+  pub rowed : {row : ℕ} → row ≡ getD rows r 0 → Rowed nm ws p row
+  rowed e = record { each = λ s h. subst (λ (j : ℕ). Pieces nm ws p j s) (sym e) (pieces-is (sym (h .is)) (pieces-of (h .tree) (h .lies))) }

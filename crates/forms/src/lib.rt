@@ -2,10 +2,11 @@
 ghost use mathlib.Core.Path.{_≡_};
 ghost use mathlib.Core.Bool.{false};
 ghost use Prim.Native.Nat.{_+_, _<_};
+ghost use lib.ListN.{getD};
 ghost use Rattle.words.specs.Table.{lent};
 ghost use Rattle.records.specs.Lies.{at as field-of};
 ghost use Rattle.naming.specs.Naming.{naming, Some, Alone};
-ghost use Rattle.shown_labels.specs.Pieces.{World, Prints, zero-or, record-form};
+ghost use Rattle.shown_labels.specs.Pieces.{World, Prints, rows, zero-or, record-form};
 ghost use Rattle.forms.specs.Forms.{Standard, Sugars, FormIs, Rowed};
 use naming::named_is;
 use records::field;
@@ -149,95 +150,100 @@ fn form(
     kind
 }
 
-// The rows by form. Each two hexadecimal digits are a piece's code, the first the last two: 0b to 0f a name, 13 to 17 a child, 18 to 29 what
+// The row of a form. Each two hexadecimal digits are a piece's code, the first the last two: 0b to 0f a name, 13 to 17 a child, 18 to 29 what
 // specs/Pieces.antt of `shown_labels` says, from 40 on a fixed text, from 80 on a piece of the record in field 4.
-const ROWS: [usize; 46] = [
-    // Identifier
-    0xb,
-    // Module
-    0xb,
-    // Nominal, of five kinds
-    0xb4014,
-    0xb4014,
-    0xb4014,
-    0xb4014,
-    0xb4014,
-    // GenericParam
-    0x1a,
-    // DependentMember
-    0xb4014,
-    // Tuple
-    0x472046,
-    // FunctionType
-    0x145a1829,
-    // GenericType
-    0x1413,
-    // GenericSignature with no requirements
-    0x491948,
-    // ConformanceRequirement
-    0x144113,
-    // SameTypeRequirement
-    0x144313,
-    // ProtocolList with no members
-    0x59,
-    // Metatype
-    0x4e13,
-    // InOut
-    0x134f,
-    // BoundGeneric without sugar
-    0x49244813,
-    // Function
-    0x280b4014,
-    // Variable
-    0x15420b4014,
-    // Accessor of no variable
-    0xb4014,
-    // Initializer
-    0x281b4014,
-    // Deinitializer
-    0x604014,
-    // VariableInitializer
-    0x1350,
-    // Static
-    0x1351,
-    // Record with fixed words
-    0x140d,
-    // Conformance
-    0x1552144213,
-    // ProtocolWitness
-    0x14541353,
-    // ValueWitness
-    0x14550b,
-    // EmptyList
-    0x58,
-    // the four markers
-    0,
-    0,
-    0,
-    0,
-    // Deinitializer that deallocates
-    0x5f4014,
-    // LazyWitness
-    0x1656150c,
-    // AssociatedConformance with no qualifier
-    0x17410c401557,
-    // Record with a number in its words
-    0x141c,
-    // AssociatedConformance with a qualifier
-    0x17410c4023401557,
-    // GenericSignature with requirements
-    0x49224d1948,
-    // ProtocolList with members
-    0x21,
-    // Optional
-    0x4c24,
-    // Array
-    0x4b244a,
-    // Dictionary
-    0x4b254a,
-    // Accessor of a variable
-    0x95420b408b4094,
-];
+fn row(form: usize) -> usize
+    requires { ⌜ form < 46 ⌝ }
+    ensures { λ r. ⌜ r ≡ getD rows form 0 ⌝ }
+{
+    match form {
+        // Identifier
+        0 => 0xb,
+        // Module
+        1 => 0xb,
+        // Nominal, of five kinds
+        2 => 0xb4014,
+        3 => 0xb4014,
+        4 => 0xb4014,
+        5 => 0xb4014,
+        6 => 0xb4014,
+        // GenericParam
+        7 => 0x1a,
+        // DependentMember
+        8 => 0xb4014,
+        // Tuple
+        9 => 0x472046,
+        // FunctionType
+        10 => 0x145a1829,
+        // GenericType
+        11 => 0x1413,
+        // GenericSignature with no requirements
+        12 => 0x491948,
+        // ConformanceRequirement
+        13 => 0x144113,
+        // SameTypeRequirement
+        14 => 0x144313,
+        // ProtocolList with no members
+        15 => 0x59,
+        // Metatype
+        16 => 0x4e13,
+        // InOut
+        17 => 0x134f,
+        // BoundGeneric without sugar
+        18 => 0x49244813,
+        // Function
+        19 => 0x280b4014,
+        // Variable
+        20 => 0x15420b4014,
+        // Accessor of no variable
+        21 => 0xb4014,
+        // Initializer
+        22 => 0x281b4014,
+        // Deinitializer
+        23 => 0x604014,
+        // VariableInitializer
+        24 => 0x1350,
+        // Static
+        25 => 0x1351,
+        // Record with fixed words
+        26 => 0x140d,
+        // Conformance
+        27 => 0x1552144213,
+        // ProtocolWitness
+        28 => 0x14541353,
+        // ValueWitness
+        29 => 0x14550b,
+        // EmptyList
+        30 => 0x58,
+        // the four markers
+        31 => 0,
+        32 => 0,
+        33 => 0,
+        34 => 0,
+        // Deinitializer that deallocates
+        35 => 0x5f4014,
+        // LazyWitness
+        36 => 0x1656150c,
+        // AssociatedConformance with no qualifier
+        37 => 0x17410c401557,
+        // Record with a number in its words
+        38 => 0x141c,
+        // AssociatedConformance with a qualifier
+        39 => 0x17410c4023401557,
+        // GenericSignature with requirements
+        40 => 0x49224d1948,
+        // ProtocolList with members
+        41 => 0x21,
+        // Optional
+        42 => 0x4c24,
+        // Array
+        43 => 0x4b244a,
+        // Dictionary
+        44 => 0x4b254a,
+        // Accessor of a variable
+        _ => 0x95420b408b4094,
+    }
+}
 
 // The row of the record at place p.
 pub fn row_of(
@@ -253,5 +259,5 @@ pub fn row_of(
     ensures { λ r. ⌜ Rowed (naming (now (text .entry)) (lent (now (starts .entry)) (now (lengths .entry)) known)) (now (ws .entry)) p r ⌝ }
 {
     let f = form(ws, text, starts, lengths, known, p);
-    ROWS[f]
+    row(f)
 }

@@ -5,8 +5,8 @@ use mathlib.Core.List.{List, [], _∷_, _++_, append-assoc, append-nil}
 use mathlib.Core.Option.{Option, some, none}
 use Prim.Native.Nat.{ℕ, zero, suc, _+_, _-_, _/_, _%_, _^_, _≤_, _<_}
 use native.Mathlib.Omega.{arith}
-use borrow.Author.Tests.{ne-eqb}
-use lib.Dec.{T, eqb}
+use borrow.Author.Tests.{ne-eqb, ltb-true, ltb-false}
+use lib.Dec.{T, eqb, ltb}
 use lib.ListN.{length, getD}
 use Rattle.definition.specs.Base.{Name, bytes}
 use Rattle.definition.specs.Text.{Text}
@@ -24,8 +24,9 @@ use Rattle.naming.specs.Texts as X
 use Rattle.naming.specs.Naming.{Puts, Some}
 use Rattle.naming.proofs.Lists.{left, left-more, left-none}
 use Rattle.shown_labels.specs.declared.Labels.{Labels}
+use Rattle.printing.specs.Answers.{Placed}
 use Rattle.printing.specs.declared.ListForm.{ListForm}
-use Rattle.shown_labels.specs.Pieces.{World, Reach, none-at, listed, LabelsIn, SomeLabels, behind-first, NextLabels, label-now, prefix, Labelling, own-label, own, Prints, Way, params-way, behind-way, signed-way, Printing, with-labels, Listed, Celled, leaf-text, list-field, list-sep, list-shown, list-count, Piece, Pieces, nothing, one, more}
+use Rattle.shown_labels.specs.Pieces.{World, Reach, none-at, listed, LabelsIn, SomeLabels, behind-first, NextLabels, label-now, prefix, Labelling, own-label, own, Prints, Way, params-way, behind-way, signed-way, Printing, with-labels, Listed, Celled, leaf-text, list-field, list-sep, list-shown, list-count, Plain, Piece, Pieces, nothing, one, more}
 use Rattle.forms.specs.Forms.{Rowed}
 use Rattle.forms.proofs.ByKind.{tuple-of, function-type-of, generic-type-of, empty-list-of}
 use Rattle.shown_labels.proofs.LabelLaws.{prefixed, shown-labels}
@@ -94,6 +95,24 @@ module _ {nm : Names} {ws : List ℕ} {p row₀ room at₀ : ℕ} {o₀ : List �
 
     pub rowing-end : Rowed nm ws p row₀ → row ≡ 0 → Puts (Prints nm ws p) room o₀ o at₀ r
     rowing-end f e = record { next = v .next; len = v .len; each = λ s k. let (t, u, w) = v .each s (f .each s k) in rest-end (rest-is (no-more u e) w) }
+
+-- a piece is a plain piece of the record that it is placed at
+module _ {nm : Names} {ws : List ℕ} {p code q : ℕ} (d : Placed ws p code q) (l : code < 256) {s : Name} (h : Piece nm ws p code s) where
+  placed-by : (b : Bool) → ltb code 128 ≡ b → (q ≤ p) × Plain nm ws q (code % 128) s
+  placed-by true e =
+      let k : code < 128 = ltb-true code 128 e in
+      let z : q ≡ p = d .own k in
+      let c : code ≡ code % 128 = omega arith in
+      (omega arith, subst (λ (j : ℕ). Plain nm ws j (code % 128) s) (sym z) (subst (λ (i : ℕ). Plain nm ws p i s) c (h .own k)))
+  placed-by false e =
+      let k : 128 ≤ code = ltb-false code 128 e in
+      let z : q ≡ at ws p 4 = d .via k in
+      let c : code - 128 ≡ code % 128 = omega arith in
+      let v = h .via k in
+      (omega (arith, v .0), subst (λ (j : ℕ). Plain nm ws j (code % 128) s) (sym z) (subst (λ (i : ℕ). Plain nm ws (at ws p 4) i s) c (v .1)))
+
+  pub placed : (q ≤ p) × Plain nm ws q (code % 128) s
+  placed = placed-by (ltb code 128) refl
 
 -- CELLS
 record Open (nm : Names) (ws : List ℕ) (host k n i sep : ℕ) (shown : Bool) (l : Labels) (s : Name) : Type 0 where

@@ -1,12 +1,13 @@
--- The text with its suffix, measured and then written. Assumes nothing.
+-- The text with its suffix: printed into an array and copied, or measured and then written. Assumes nothing.
 use mathlib.Core.Path.{_≡_, refl, sym, ap, subst, _∙_}
 use mathlib.Core.List.{List, [], _∷_, _++_, append-nil}
-use Prim.Native.Nat.{ℕ, _+_, _≤_, _<_}
+use Prim.Native.Nat.{ℕ, _+_, _-_, _≤_, _<_}
 use native.Mathlib.Omega.{arith}
-use lib.ListN.{length, drop}
+use lib.ListN.{length, take, drop}
+use lib.Seq.{take-at}
 use Rattle.definition.specs.Base.{Name, bytes}
 use Rattle.definition.specs.Text.{Text, suffix-text}
-use Rattle.output.specs.Sink.{Wrote, wrote-is, wrote-then}
+use Rattle.output.specs.Sink.{part, Wrote, wrote-is, wrote-then}
 use Rattle.records.specs.Holds.{Names}
 use Rattle.naming.specs.Texts.{text-of}
 use Rattle.naming.specs.Texts as X
@@ -44,6 +45,31 @@ module _ {nm : Names} {ws : List ℕ} {p : ℕ} {suffix : Text} where
 meant : {nm : Names} {ws : List ℕ} {p : ℕ} (suffix : Text) (s : Name) → Prints nm ws p s → Suffixed nm ws p suffix (s ++ suffix-text suffix)
 meant suffix s k = record { text = s; prints = k; is = refl }
 
+-- PRINTED ONCE
+-- into a slice z, where it fits
+module _ {nm : Names} {ws : List ℕ} {p n m : ℕ} {suffix : Text} {z e : List ℕ} (o : List ℕ) (full : length z ≡ n) (h : Puts (Suffixed nm ws p suffix) n z e 0 m) (l : m ≤ n) where
+  once-length : (s : Name) → Prints nm ws p s → length (s ++ suffix-text suffix) ≡ m
+  once-length s k = let c = h .each (s ++ suffix-text suffix) (meant suffix s k) .count in omega arith
+
+  once-text : (s : Name) → Prints nm ws p s → part e 0 m ≡ s ++ suffix-text suffix
+  once-text s k =
+      let w = h .each (s ++ suffix-text suffix) (meant suffix s k) in
+      let i : m ≤ length z = omega arith in
+      let d : m - 0 ≡ m = omega arith in
+      ap (λ (j : ℕ). take j e) d ∙ ap (take m) (w .text i) ∙ take-at (s ++ suffix-text suffix) (drop m z) m (once-length s k)
+
+  pub once-out : length o < m → Rendered nm ws p suffix o o (length o + 1)
+  once-out g = record { each = λ s k. record { count = omega (arith, once-length s k); fits = λ (x : length o + 1 ≤ length o). absurd (omega arith); refused = λ _. refl } }
+
+  pub once-in : {r : ℕ} {o' : List ℕ} → m ≤ length o → Wrote (length o) o o' 0 (part e 0 m) r → Rendered nm ws p suffix o o' r
+  once-in {r} g v = record {
+    each = λ s k.
+        let w = wrote-is (once-text s k) v in
+        let c = w .count in
+        record { count = omega arith; fits = w .text; refused = λ (x : length o < r). absurd (omega (arith, once-length s k)) };
+  }
+
+-- MEASURED FIRST
 nil-of : (e : List ℕ) → length e ≡ 0 → e ≡ []
 nil-of [] h = refl
 nil-of (x ∷ e) h = absurd (omega arith)

@@ -5,8 +5,14 @@ use Prim.Native.Nat.{ℕ, _+_, _≤_, _<_, min}
 use lib.ListN.{length, drop}
 use Rattle.definition.specs.Base.{Name}
 use Rattle.definition.specs.Text.{Text, suffix-text}
+use Rattle.records.specs.Lies.{at}
 use Rattle.records.specs.Holds.{Names}
 use Rattle.shown_labels.specs.Pieces.{Prints}
+
+-- the piece of that code of the record at p is one of the record at r
+pub record Placed (ws : List ℕ) (p code r : ℕ) : Type 0 where
+  pub own : code < 128 → r ≡ p
+  pub via : 128 ≤ code → r ≡ at ws p 4
 
 -- the text s in the slice o, which is o' then: r is its length, or one more than the slice's where it does not fit; the slice is then as it was
 pub record Shown (s : Name) (o o' : List ℕ) (r : ℕ) : Type 0 where

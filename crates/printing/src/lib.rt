@@ -10,8 +10,8 @@ ghost use Rattle.output.specs.Sink.{Room, Wrote};
 ghost use Rattle.words.specs.Table.{lent};
 ghost use Rattle.records.specs.Lies.{at as field-of};
 ghost use Rattle.naming.specs.Naming.{naming, Puts, Some};
-ghost use Rattle.shown_labels.specs.Pieces.{World, Reach, Prints, params-way, behind-way, signed-way, Printing, Listed, Celled, leaf-text, list-field, list-sep, list-shown, list-count, init-name, Plain, Piece};
-ghost use Rattle.printing.specs.Answers.{Suffixed, Rendered};
+ghost use Rattle.shown_labels.specs.Pieces.{World, Reach, Prints, params-way, behind-way, signed-way, Printing, Listed, Celled, leaf-text, list-field, list-sep, list-shown, list-count, init-name, Plain};
+ghost use Rattle.printing.specs.Answers.{Placed, Suffixed, Rendered};
 use forms::row_of;
 use naming::put_effects;
 use naming::put_named;
@@ -160,6 +160,17 @@ fn list_form(ws: &[u32], p: usize, code: usize) -> ListForm
 
 // THE PRINTER
 
+// The place of the record that a piece of the record at place p is of: its own, or from code 128 on that of the record in field 4.
+fn place_of(ws: &[u32], p: usize, code: usize) -> usize
+    requires { ⌜ 8 * p + 8 ≤ length (now ws) ⌝ }
+    ensures { λ r. ⌜ Placed (now (ws .entry)) p code r ⌝ }
+{
+    if code < 128 {
+        return p;
+    }
+    get(ws, p, 4)
+}
+
 // Appends the text of the tree at place p.
 pub fn print(
     out: &mut [u8],
@@ -183,46 +194,23 @@ pub fn print(
         if room < r {
             return r;
         }
-        r = print_piece(out, r, room, ws, text, starts, lengths, known, p, row % 256);
+        let code = row % 256;
+        let q = place_of(ws, p, code);
+        r = print_plain(
+            out,
+            r,
+            room,
+            ws,
+            text,
+            starts,
+            lengths,
+            known,
+            q,
+            code % 128,
+        );
         row = row / 256;
     }
     r
-}
-
-// Appends a piece of the record at place p, or of the record in its field 4.
-fn print_piece(
-    out: &mut [u8],
-    at: usize,
-    room: usize,
-    ws: &[u32],
-    text: &[u8],
-    starts: &[u16; 26],
-    lengths: &[u16; 26],
-    known: usize,
-    p: usize,
-    code: usize,
-) -> usize
-    requires { ⌜ Room room (now out) at ⌝ }
-    requires { ⌜ World (now text) (lent (now starts) (now lengths) known) (now ws) p ⌝ }
-    requires { ⌜ Some (Piece (naming (now text) (lent (now starts) (now lengths) known)) (now ws) p code) ⌝ }
-    ensures { λ r. ⌜ Puts (Piece (naming (now (text .entry)) (lent (now (starts .entry)) (now (lengths .entry)) known)) (now (ws .entry)) p code) room (now (out .entry)) (now (out .exit)) at r ⌝ }
-{
-    if code < 128 {
-        return print_plain(out, at, room, ws, text, starts, lengths, known, p, code);
-    }
-    let q = get(ws, p, 4);
-    print_plain(
-        out,
-        at,
-        room,
-        ws,
-        text,
-        starts,
-        lengths,
-        known,
-        q,
-        code - 128,
-    )
 }
 
 // Appends a piece of the record at place p.
@@ -494,7 +482,8 @@ fn print_whole(
 }
 
 // Writes the text of the tree at place p to the front of out, with the suffix behind it, and returns its length. Where out has no room for both it returns
-// one more than out's length, and out is as it was.
+// one more than out's length, and out is as it was. A text of up to 512 bytes is printed once, into an array, and copied from there; a longer one is
+// measured first.
 pub fn render(
     out: &mut [u8],
     ws: &[u32],
@@ -510,6 +499,14 @@ pub fn render(
     ensures { λ r. ⌜ Rendered (naming (now (text .entry)) (lent (now (starts .entry)) (now (lengths .entry)) known)) (now (ws .entry)) p (now (suffix .entry)) (now (out .entry)) (now (out .exit)) r ⌝ }
 {
     let room = out.len();
+    let mut small = [0; 512];
+    let m = print_whole(&mut small, 512, ws, text, starts, lengths, known, p, suffix);
+    if m <= 512 {
+        if room < m {
+            return room + 1;
+        }
+        return put(out, 0, room, &small[0..m]);
+    }
     let n = print_whole(
         &mut out[..0],
         room,

@@ -1,6 +1,4 @@
 -- `forms::row_of` meets its contract. Assumes nothing.
-use native.Mathlib.Omega.{arith}
-use Rattle.shown_labels.specs.Pieces.{rows}
 use Rattle.forms.proofs.RowLaws.{rowed}
 use borrow.Author.Needs.{needs}
 use Rattle.forms.proofs.row_of.Statement.{statement}
@@ -9,15 +7,11 @@ use Rattle.forms.proofs.row_of.Tie as tie
 form-requires : tie.Need-form-requires
 form-requires c κs = search needs
 
-mul-result : tie.Need-mul-result
-mul-result c = omega (arith, c .form .ensures .small)
-
-array-read-result : tie.Need-array-read-result
-array-read-result c = omega (arith, c .form .ensures .small)
+row-requires : tie.Need-row-requires
+row-requires c κs = c .form .ensures .small
 
 returns : tie.Need-returns
-unfolding rows
-returns c = rowed (c .form .ensures)
+returns c = rowed (c .before .form .ensures) (c .row .ensures)
 
 pub row-of-spec : {M : Type 1} → statement M
-row-of-spec = tie.close (tie.spec form-requires mul-result array-read-result returns)
+row-of-spec = tie.close (tie.spec form-requires row-requires returns)

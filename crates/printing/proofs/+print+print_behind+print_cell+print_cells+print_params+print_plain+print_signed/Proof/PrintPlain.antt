@@ -11,9 +11,9 @@ use Rattle.printing.proofs.print.Reads as print
 use Rattle.printing.proofs.print_cells.Reads as print-cells
 use Rattle.printing.proofs.print_params.Reads as print-params
 use Rattle.printing.proofs.print_plain.Reads as print-plain
-use Rattle.printing.proofs.+print+print_behind+print_cell+print_cells+print_params+print_piece+print_plain+print_signed.Lts-print_plain as print-plain-lts
+use Rattle.printing.proofs.+print+print_behind+print_cell+print_cells+print_params+print_plain+print_signed.Lts-print_plain as print-plain-lts
 use Rattle.printing.proofs.print_signed.Reads as print-signed
-use Rattle.printing.proofs.+print+print_behind+print_cell+print_cells+print_params+print_piece+print_plain+print_signed.Proof.Base.{print-plain-at, print-plain-claims}
+use Rattle.printing.proofs.+print+print_behind+print_cell+print_cells+print_params+print_plain+print_signed.Proof.Base.{print-plain-at, print-plain-claims}
 
 pub print-plain-put-text-requires : (t : ℕ) → print-plain-lts.Need-put-text-requires (print-plain-claims t) (print-plain-at t) print-plain.Post
 print-plain-put-text-requires t c κs = let b = c .before .before .before .before .before .pre .1 .1 .1 .is .text (c .before .if1 .taken) .0 in (c .before .before .before .before .before .pre .1 .0, omega (arith, b, c .before .if1 .taken))

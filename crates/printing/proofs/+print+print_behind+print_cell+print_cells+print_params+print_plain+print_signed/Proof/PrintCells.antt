@@ -6,8 +6,8 @@ use Rattle.printing.proofs.CycleLaws.{Celling, celling-first, cell-belo
 -- The answers of print-cells.
 use Rattle.printing.proofs.print_cell.Reads as print-cell
 use Rattle.printing.proofs.print_cells.Reads as print-cells
-use Rattle.printing.proofs.+print+print_behind+print_cell+print_cells+print_params+print_piece+print_plain+print_signed.Lts-print_cells as print-cells-lts
-use Rattle.printing.proofs.+print+print_behind+print_cell+print_cells+print_params+print_piece+print_plain+print_signed.Proof.Base.{print-cells-at, print-cells-claims}
+use Rattle.printing.proofs.+print+print_behind+print_cell+print_cells+print_params+print_plain+print_signed.Lts-print_cells as print-cells-lts
+use Rattle.printing.proofs.+print+print_behind+print_cell+print_cells+print_params+print_plain+print_signed.Proof.Base.{print-cells-at, print-cells-claims}
 
 abbrev pub print-cells-Inv-loop : print-cells-lts.InvT-loop
 print-cells-Inv-loop out₀ at room ws text starts lengths known p count sep shown host₀ k₀ labels₀ r₀ i₀ out host k labels r i = Celling (naming text (lent starts lengths known)) ws p k₀ count sep shown labels₀ room out₀ at out host k labels r i

@@ -4,34 +4,32 @@ use borrow.Fn.Kinds.{In}
 use borrow.Fn.PlainCycle.{Measures, is, falls, and}
 use Rattle.printing.proofs.print.Reads as print
 use Rattle.printing.proofs.print.Kinds as print-kinds
-use Rattle.printing.proofs.+print+print_behind+print_cell+print_cells+print_params+print_piece+print_plain+print_signed.Lts-print as print-lts
+use Rattle.printing.proofs.+print+print_behind+print_cell+print_cells+print_params+print_plain+print_signed.Lts-print as print-lts
 use Rattle.printing.proofs.print_behind.Reads as print-behind
 use Rattle.printing.proofs.print_behind.Kinds as print-behind-kinds
-use Rattle.printing.proofs.+print+print_behind+print_cell+print_cells+print_params+print_piece+print_plain+print_signed.Lts-print_behind as print-behind-lts
+use Rattle.printing.proofs.+print+print_behind+print_cell+print_cells+print_params+print_plain+print_signed.Lts-print_behind as print-behind-lts
 use Rattle.printing.proofs.print_cell.Reads as print-cell
 use Rattle.printing.proofs.print_cell.Kinds as print-cell-kinds
-use Rattle.printing.proofs.+print+print_behind+print_cell+print_cells+print_params+print_piece+print_plain+print_signed.Lts-print_cell as print-cell-lts
+use Rattle.printing.proofs.+print+print_behind+print_cell+print_cells+print_params+print_plain+print_signed.Lts-print_cell as print-cell-lts
 use Rattle.printing.proofs.print_cells.Reads as print-cells
 use Rattle.printing.proofs.print_cells.Kinds as print-cells-kinds
-use Rattle.printing.proofs.+print+print_behind+print_cell+print_cells+print_params+print_piece+print_plain+print_signed.Lts-print_cells as print-cells-lts
+use Rattle.printing.proofs.+print+print_behind+print_cell+print_cells+print_params+print_plain+print_signed.Lts-print_cells as print-cells-lts
 use Rattle.printing.proofs.print_params.Reads as print-params
 use Rattle.printing.proofs.print_params.Kinds as print-params-kinds
-use Rattle.printing.proofs.+print+print_behind+print_cell+print_cells+print_params+print_piece+print_plain+print_signed.Lts-print_params as print-params-lts
-use Rattle.printing.proofs.print_piece.Reads as print-piece
-use Rattle.printing.proofs.print_piece.Kinds as print-piece-kinds
-use Rattle.printing.proofs.+print+print_behind+print_cell+print_cells+print_params+print_piece+print_plain+print_signed.Lts-print_piece as print-piece-lts
+use Rattle.printing.proofs.+print+print_behind+print_cell+print_cells+print_params+print_plain+print_signed.Lts-print_params as print-params-lts
 use Rattle.printing.proofs.print_plain.Reads as print-plain
 use Rattle.printing.proofs.print_plain.Kinds as print-plain-kinds
-use Rattle.printing.proofs.+print+print_behind+print_cell+print_cells+print_params+print_piece+print_plain+print_signed.Lts-print_plain as print-plain-lts
+use Rattle.printing.proofs.+print+print_behind+print_cell+print_cells+print_params+print_plain+print_signed.Lts-print_plain as print-plain-lts
 use Rattle.printing.proofs.print_signed.Reads as print-signed
 use Rattle.printing.proofs.print_signed.Kinds as print-signed-kinds
-use Rattle.printing.proofs.+print+print_behind+print_cell+print_cells+print_params+print_piece+print_plain+print_signed.Lts-print_signed as print-signed-lts
+use Rattle.printing.proofs.+print+print_behind+print_cell+print_cells+print_params+print_plain+print_signed.Lts-print_signed as print-signed-lts
 use Rattle.naming.proofs.put_named.Reads as put-named-reads
 use Rattle.naming.proofs.put_sep.Reads as put-sep-reads
 use Rattle.naming.proofs.put_text.Reads as put-text-reads
 use Rattle.shown_labels.proofs.get.Reads as get-reads
 use Rattle.shown_labels.proofs.labels_of.Reads as labels-of-reads
 use Rattle.printing.proofs.list_form.Reads as list-form-reads
+use Rattle.printing.proofs.place_of.Reads as place-of-reads
 use Rattle.shown_labels.proofs.next_labels.Reads as next-labels-reads
 use Rattle.shown_labels.proofs.no_labels.Reads as no-labels-reads
 use Rattle.shown_labels.proofs.own_label.Reads as own-label-reads
@@ -54,9 +52,6 @@ abbrev pub μ-print-cells : Measures 5 print-cells-kinds.ps ℕ
 
 abbrev pub μ-print-params : Measures 5 print-params-kinds.ps ℕ
 μ-print-params κs a = 8 * a .1 .1 .1 .1 .1 .1 .1 .1 .0 + 6
-
-abbrev pub μ-print-piece : Measures 5 print-piece-kinds.ps ℕ
-μ-print-piece κs a = 8 * a .1 .1 .1 .1 .1 .1 .1 .1 .0 + 4
 
 abbrev pub μ-print-plain : Measures 5 print-plain-kinds.ps ℕ
 μ-print-plain κs a = 8 * a .1 .1 .1 .1 .1 .1 .1 .1 .0 + 3
@@ -110,14 +105,6 @@ print-params-below t =
     (falls 5 print-params-kinds.ps _<_ μ-print-params t)
     print-params.Pre
 
-abbrev pub print-piece-at : ℕ → In 5 print-piece-kinds.ps
-print-piece-at t =
-    and 5 print-piece-kinds.ps (is 5 print-piece-kinds.ps μ-print-piece t) print-piece.Pre
-
-abbrev pub print-piece-below : ℕ → In 5 print-piece-kinds.ps
-print-piece-below t =
-    and 5 print-piece-kinds.ps (falls 5 print-piece-kinds.ps _<_ μ-print-piece t) print-piece.Pre
-
 abbrev pub print-plain-at : ℕ → In 5 print-plain-kinds.ps
 print-plain-at t =
     and 5 print-plain-kinds.ps (is 5 print-plain-kinds.ps μ-print-plain t) print-plain.Pre
@@ -139,7 +126,7 @@ print-signed-below t =
     print-signed.Pre
 
 abbrev pub print-claims : ℕ → print-lts.Claims
-print-claims t = (row-of-reads.Asked, row-of-reads.Learnt, print-piece-below t, print-piece.Post)
+print-claims t = (row-of-reads.Asked, row-of-reads.Learnt, place-of-reads.Asked, place-of-reads.Learnt, print-plain-below t, print-plain.Post)
 
 abbrev pub print-behind-claims : ℕ → print-behind-lts.Claims
 print-behind-claims t = (get-reads.Asked, get-reads.Learnt, print-params-below t, print-params.Post, put-effects-of-reads.Asked, put-effects-of-reads.Learnt, put-text-reads.Asked, put-text-reads.Learnt, print-below t, print.Post)
@@ -152,9 +139,6 @@ print-cells-claims t = (get-reads.Asked, get-reads.Learnt, print-cell-below t, p
 
 abbrev pub print-params-claims : ℕ → print-params-lts.Claims
 print-params-claims t = (get-reads.Asked, get-reads.Learnt, put-text-reads.Asked, put-text-reads.Learnt, list-form-reads.Asked, list-form-reads.Learnt, print-cells-below t, print-cells.Post, put-label-reads.Asked, put-label-reads.Learnt, print-below t, print.Post)
-
-abbrev pub print-piece-claims : ℕ → print-piece-lts.Claims
-print-piece-claims t = (print-plain-below t, print-plain.Post, get-reads.Asked, get-reads.Learnt)
 
 abbrev pub print-plain-claims : ℕ → print-plain-lts.Claims
 print-plain-claims t = (put-text-reads.Asked, put-text-reads.Learnt, get-reads.Asked, get-reads.Learnt, put-named-reads.Asked, put-named-reads.Learnt, print-below t, print.Post, put-leaf-reads.Asked, put-leaf-reads.Learnt, list-form-reads.Asked, list-form-reads.Learnt, no-labels-reads.Asked, no-labels-reads.Learnt, print-cells-below t, print-cells.Post, labels-of-reads.Asked, labels-of-reads.Learnt, print-signed-below t, print-signed.Post, print-params-below t, print-params.Post)

@@ -7,8 +7,8 @@ use Prim.Native.Nat.{ℕ}
 use Rattle.printing.proofs.print.Reads as print
 use Rattle.printing.proofs.print_behind.Reads as print-behind
 use Rattle.printing.proofs.print_signed.Reads as print-signed
-use Rattle.printing.proofs.+print+print_behind+print_cell+print_cells+print_params+print_piece+print_plain+print_signed.Lts-print_signed as print-signed-lts
-use Rattle.printing.proofs.+print+print_behind+print_cell+print_cells+print_params+print_piece+print_plain+print_signed.Proof.Base.{print-signed-at, print-signed-claims}
+use Rattle.printing.proofs.+print+print_behind+print_cell+print_cells+print_params+print_plain+print_signed.Lts-print_signed as print-signed-lts
+use Rattle.printing.proofs.+print+print_behind+print_cell+print_cells+print_params+print_plain+print_signed.Proof.Base.{print-signed-at, print-signed-claims}
 
 pub print-signed-get-requires : (t : ℕ) → print-signed-lts.Need-get-requires (print-signed-claims t) (print-signed-at t) print-signed.Post
 print-signed-get-requires t c κs = (c .before .before .before .pre .1 .1 .0 .long, omega arith)

@@ -7,8 +7,8 @@ use Prim.Native.Nat.{ℕ}
 use Rattle.printing.proofs.print.Reads as print
 use Rattle.printing.proofs.print_cells.Reads as print-cells
 use Rattle.printing.proofs.print_params.Reads as print-params
-use Rattle.printing.proofs.+print+print_behind+print_cell+print_cells+print_params+print_piece+print_plain+print_signed.Lts-print_params as print-params-lts
-use Rattle.printing.proofs.+print+print_behind+print_cell+print_cells+print_params+print_piece+print_plain+print_signed.Proof.Base.{print-params-at, print-params-claims}
+use Rattle.printing.proofs.+print+print_behind+print_cell+print_cells+print_params+print_plain+print_signed.Lts-print_params as print-params-lts
+use Rattle.printing.proofs.+print+print_behind+print_cell+print_cells+print_params+print_plain+print_signed.Proof.Base.{print-params-at, print-params-claims}
 
 pub print-params-get-requires : (t : ℕ) → print-params-lts.Need-get-requires (print-params-claims t) (print-params-at t) print-params.Post
 print-params-get-requires t c κs = (c .before .before .before .pre .1 .1 .0 .long, omega arith)

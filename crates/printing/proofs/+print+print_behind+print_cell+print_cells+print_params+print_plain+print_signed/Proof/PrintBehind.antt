@@ -6,9 +6,9 @@ use Rattle.printing.proofs.CycleLaws.{function-params, function-result,
 use Prim.Native.Nat.{ℕ}
 use Rattle.printing.proofs.print.Reads as print
 use Rattle.printing.proofs.print_behind.Reads as print-behind
-use Rattle.printing.proofs.+print+print_behind+print_cell+print_cells+print_params+print_piece+print_plain+print_signed.Lts-print_behind as print-behind-lts
+use Rattle.printing.proofs.+print+print_behind+print_cell+print_cells+print_params+print_plain+print_signed.Lts-print_behind as print-behind-lts
 use Rattle.printing.proofs.print_params.Reads as print-params
-use Rattle.printing.proofs.+print+print_behind+print_cell+print_cells+print_params+print_piece+print_plain+print_signed.Proof.Base.{print-behind-at, print-behind-claims}
+use Rattle.printing.proofs.+print+print_behind+print_cell+print_cells+print_params+print_plain+print_signed.Proof.Base.{print-behind-at, print-behind-claims}
 
 pub print-behind-get-requires : (t : ℕ) → print-behind-lts.Need-get-requires (print-behind-claims t) (print-behind-at t) print-behind.Post
 print-behind-get-requires t c κs = (c .before .before .before .pre .1 .1 .0 .long, omega arith)

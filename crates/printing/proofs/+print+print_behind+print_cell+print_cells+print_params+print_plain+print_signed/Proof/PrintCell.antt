@@ -4,8 +4,8 @@ use Rattle.printing.proofs.CycleLaws.{celled-label, celled-below, celle
 use Prim.Native.Nat.{ℕ, _<_}
 use Rattle.printing.proofs.print.Reads as print
 use Rattle.printing.proofs.print_cell.Reads as print-cell
-use Rattle.printing.proofs.+print+print_behind+print_cell+print_cells+print_params+print_piece+print_plain+print_signed.Lts-print_cell as print-cell-lts
-use Rattle.printing.proofs.+print+print_behind+print_cell+print_cells+print_params+print_piece+print_plain+print_signed.Proof.Base.{print-cell-at, print-cell-claims}
+use Rattle.printing.proofs.+print+print_behind+print_cell+print_cells+print_params+print_plain+print_signed.Lts-print_cell as print-cell-lts
+use Rattle.printing.proofs.+print+print_behind+print_cell+print_cells+print_params+print_plain+print_signed.Proof.Base.{print-cell-at, print-cell-claims}
 
 pub print-cell-put-sep-requires : (t : ℕ) → print-cell-lts.Need-put-sep-requires (print-cell-claims t) (print-cell-at t) print-cell.Post
 print-cell-put-sep-requires t c κs = (c .before .before .before .before .pre .1 .0, c .before .before .before .before .pre .1 .1 .1 .0)
