@@ -1,5 +1,6 @@
 pub mod KeyHolds
 pub mod SameText
+pub mod Arms
 pub mod PrintEquations
 pub mod OnlySwift
 pub mod ParamNames

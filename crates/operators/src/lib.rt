@@ -59,7 +59,10 @@ fn special_type(text: &[u8], c: Cursor) -> OperatorRead
             b'f' => OperatorRead::Read(Operator::FunctionType, next),
             b'L' => OperatorRead::Read(Operator::FunctionType, next),
             b'U' => OperatorRead::Read(Operator::FunctionType, next),
-            b'l' => OperatorRead::Read(Operator::Leaf(Leaf::StandardNominal(NominalKind::Protocol, 3)), next),
+            b'l' => OperatorRead::Read(
+                Operator::Leaf(Leaf::StandardNominal(NominalKind::Protocol, 3)),
+                next,
+            ),
             b'M' => any_byte(text, next),
             b'p' => OperatorRead::Read(Operator::Metatype, next),
             _ => OperatorRead::Refused(Refusal::Spelling),
@@ -542,7 +545,10 @@ pub fn operator(text: &[u8], c: Cursor) -> OperatorRead
         b'c' => OperatorRead::Read(Operator::FunctionType, next),
         b'X' => special_type(text, next),
         b'Y' => async_type(text, next),
-        b'x' => OperatorRead::Read(Operator::Leaf(Leaf::GenericParam(Param { depth: 0, index: 0 })), next),
+        b'x' => OperatorRead::Read(
+            Operator::Leaf(Leaf::GenericParam(Param { depth: 0, index: 0 })),
+            next,
+        ),
         b'q' => generic_param(text, next),
         b'Q' => archetype(text, next),
         b'z' => OperatorRead::Read(Operator::InOut, next),

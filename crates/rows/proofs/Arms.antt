@@ -1,36 +1,17 @@
--- What the arms of a match on a row's number tell. Assumes nothing.
+-- What the arms of a match on a row's number tell of marks. Assumes nothing.
 use mathlib.Core.Path.{_≡_, refl, sym, ap, subst}
 use mathlib.Core.Bool.{Bool, true, false, _&&_, _||_, true≢false, false≢true}
 use mathlib.Core.List.{List, [], _∷_}
-use Prim.Native.Nat.{ℕ, zero, suc, _+_, _≤_}
+use Prim.Native.Nat.{ℕ, zero, suc, _+_}
 use native.Mathlib.Omega.{arith}
 use borrow.Author.Tests.{eqb-true, ne-eqb}
 use lib.Dec.{eqb}
 use lib.ListN.{getD}
+use Rattle.definition.proofs.Arms.{Passed}
 
--- in the arm of k: the list's number there, or its mark
-pub here : (xs : List ℕ) {row k : ℕ} → row ≡ k → getD xs k 0 ≡ getD xs row 0
-here xs e = sym (ap (λ (i : ℕ). getD xs i 0) e)
-
+-- in the arm of k: the list's mark there
 pub marked : (xs : List ℕ) {row k : ℕ} → row ≡ k → eqb (getD xs k 0) 1 ≡ eqb (getD xs row 0) 1
 marked xs e = sym (ap (λ (i : ℕ). eqb (getD xs i 0) 1) e)
-
--- where no arm was taken: the number is none of the keys, the last key first
-abbrev pub Passed : ℕ → List ℕ → Type 0
-Passed k [] = Unit {0}
-Passed k (x ∷ xs) = Passed k xs × (k ≡ x → ⊥)
-
--- the n keys from s on
-abbrev pub keys : ℕ → ℕ → List ℕ
-keys s zero = []
-keys s (suc n) = (s + n) ∷ keys s n
-
-past : (k s n : ℕ) → s ≤ k → Passed k (keys s n) → s + n ≤ k
-past k s zero l h = omega arith
-past k s (suc n) l h = let p = past k s n l (h .0) in let m = h .1 in omega arith
-
-pub the-last : (k s n : ℕ) → s ≤ k → k ≤ s + n → Passed k (keys s n) → k ≡ s + n
-the-last k s n l u h = let p = past k s n l h in omega arith
 
 -- marks that stand at the keys alone
 unfoldable pub among : ℕ → List ℕ → Bool

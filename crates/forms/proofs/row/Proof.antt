@@ -1,7 +1,7 @@
 -- `forms::row` meets its contract. Assumes nothing.
 use native.Mathlib.Omega.{arith}
 use Rattle.shown_labels.specs.Pieces.{rows}
-use Rattle.rows.proofs.Arms.{here, the-last}
+use Rattle.definition.proofs.Arms.{here, the-last}
 use Rattle.forms.proofs.row.Statement.{statement}
 use Rattle.forms.proofs.row.Tie as tie
 

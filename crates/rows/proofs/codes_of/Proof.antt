@@ -1,7 +1,7 @@
 -- `rows::codes_of` meets its contract. Assumes nothing.
 use native.Mathlib.Omega.{arith}
 use Rattle.rows.specs.Table.{codes}
-use Rattle.rows.proofs.Arms.{here, the-last}
+use Rattle.definition.proofs.Arms.{here, the-last}
 use Rattle.rows.proofs.codes_of.Statement.{statement}
 use Rattle.rows.proofs.codes_of.Tie as tie
 

@@ -1,7 +1,7 @@
 -- `rows::decode` meets its contract. Assumes nothing.
 use mathlib.Core.Path.{sym, ap}
 use Rattle.rows.specs.Table.{decoded}
-use Rattle.rows.proofs.Arms.{the-last}
+use Rattle.definition.proofs.Arms.{the-last}
 use Rattle.rows.proofs.decode.Statement.{statement}
 use Rattle.rows.proofs.decode.Tie as tie
 

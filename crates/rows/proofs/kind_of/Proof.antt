@@ -1,7 +1,7 @@
 -- `rows::kind_of` meets its contract. Assumes nothing.
 use native.Mathlib.Omega.{arith}
 use Rattle.rows.specs.Table.{kinds}
-use Rattle.rows.proofs.Arms.{here, the-last}
+use Rattle.definition.proofs.Arms.{here, the-last}
 use Rattle.rows.proofs.kind_of.Statement.{statement}
 use Rattle.rows.proofs.kind_of.Tie as tie
 

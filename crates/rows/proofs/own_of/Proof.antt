@@ -1,7 +1,7 @@
 -- `rows::own_of` meets its contract. Assumes nothing.
 use native.Mathlib.Omega.{arith}
 use Rattle.rows.specs.Table.{own}
-use Rattle.rows.proofs.Arms.{here, the-last}
+use Rattle.definition.proofs.Arms.{here, the-last}
 use Rattle.rows.proofs.own_of.Statement.{statement}
 use Rattle.rows.proofs.own_of.Tie as tie
 
