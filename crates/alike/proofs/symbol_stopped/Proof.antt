@@ -11,35 +11,35 @@ use Rattle.agreement.proofs.stopped_agrees.Reads as stopped-agrees-reads
 use Rattle.swift_demangle.proofs.demangle_stopped.Reads as demangle-stopped-reads
 use Rattle.swift_demangle.proofs.shape_stopped.Reads as shape-stopped-reads
 
--- src/lib.rt:172:9
+-- src/lib.rt:52:9
 demangle-stopped-requires : tie.Need-demangle-stopped-requires
 demangle-stopped-requires c κs = search needs
 
--- src/lib.rt:179:9
+-- src/lib.rt:59:9
 shape-stopped-requires : tie.Need-shape-stopped-requires
 shape-stopped-requires c κs = search needs
 
--- src/lib.rt:180:5
+-- src/lib.rt:60:5
 stopped-agrees-requires : tie.Need-stopped-agrees-requires
 stopped-agrees-requires c κs = (still-fits (c .before .before .before .before .before .before .before .before .before .before .before .before .before .demangle-stopped .result) (demangle-wrote (c .before .before .before .before .before .before .before .before .before .before .before .before .before .before .before .before .before .before .before .before .before .args .text .now) (c .before .before .before .before .before .before .before .before .before .before .before .before .before .before .before .before .before .before .before .before .before .args .ceiling) (c .before .before .before .before .before .before .before .before .before .before .before .before .before .before .before .before .before .before .before .before .before .args .k) (length (c .before .before .before .before .before .before .before .before .before .before .before .before .before .before .before .before .before .before .before .before .before .args .reading-workspace .now)) (c .before .before .before .before .before .before .before .before .before .before .before .before .before .demangle-stopped .ensures .0)), still-fits (c .before .before .before .before .before .before .shape-stopped .result) (shape-wrote (c .before .before .before .before .before .before .before .before .before .before .before .before .before .before .before .before .before .before .before .before .before .args .text .now) (c .before .before .before .before .before .before .before .before .before .before .before .before .before .before .before .before .before .before .before .before .before .args .ceiling) (c .before .before .before .before .before .before .before .before .before .before .before .before .before .before .before .before .before .before .before .before .before .args .k) (length (c .before .before .before .before .before .before .before .before .before .before .before .before .before .before .before .before .before .before .before .before .before .args .check-workspace .now)) (c .before .before .before .before .before .before .shape-stopped .ensures .0)))
 
--- src/lib.rt:161:1
+-- src/lib.rt:41:1
 same-length : tie.Need-same-length
 same-length c = search needs
 
--- src/lib.rt:161:1
+-- src/lib.rt:41:1
 same-length-2 : tie.Need-same-length-2
 same-length-2 c = search needs
 
--- src/lib.rt:161:1
+-- src/lib.rt:41:1
 same-length-3 : tie.Need-same-length-3
 same-length-3 c = search needs
 
--- src/lib.rt:161:1
+-- src/lib.rt:41:1
 same-length-4 : tie.Need-same-length-4
 same-length-4 c = search needs
 
--- src/lib.rt:161:1
+-- src/lib.rt:41:1
 returns : tie.Need-returns
 returns c = stopped-is (Reading.demangle-stopped (c .before .before .before .before .before .before .before .before .before .before .before .before .before .before .before .before .before .before .before .before .before .before .args .text .now) (c .before .before .before .before .before .before .before .before .before .before .before .before .before .before .before .before .before .before .before .before .before .before .args .ceiling) (c .before .before .before .before .before .before .before .before .before .before .before .before .before .before .before .before .before .before .before .before .before .before .args .k) (length (c .before .before .before .before .before .before .before .before .before .before .before .before .before .before .before .before .before .before .before .before .before .before .args .reading-workspace .now)) (length (c .before .before .before .before .before .before .before .before .before .before .before .before .before .before .before .before .before .before .before .before .before .before .args .reading-stack .now))) (Check.shape-stopped (c .before .before .before .before .before .before .before .before .before .before .before .before .before .before .before .before .before .before .before .before .before .before .args .text .now) (c .before .before .before .before .before .before .before .before .before .before .before .before .before .before .before .before .before .before .before .before .before .before .args .ceiling) (c .before .before .before .before .before .before .before .before .before .before .before .before .before .before .before .before .before .before .before .before .before .before .args .k) (length (c .before .before .before .before .before .before .before .before .before .before .before .before .before .before .before .before .before .before .before .before .before .before .args .check-workspace .now)) (length (c .before .before .before .before .before .before .before .before .before .before .before .before .before .before .before .before .before .before .before .before .before .before .args .check-stack .now))) (c .before .before .before .before .before .before .before .before .before .before .before .before .before .before .demangle-stopped .result) (c .before .before .before .before .before .before .before .shape-stopped .result) (c .stopped-agrees .result) (demangle-wrote (c .before .before .before .before .before .before .before .before .before .before .before .before .before .before .before .before .before .before .before .before .before .before .args .text .now) (c .before .before .before .before .before .before .before .before .before .before .before .before .before .before .before .before .before .before .before .before .before .before .args .ceiling) (c .before .before .before .before .before .before .before .before .before .before .before .before .before .before .before .before .before .before .before .before .before .before .args .k) (length (c .before .before .before .before .before .before .before .before .before .before .before .before .before .before .before .before .before .before .before .before .before .before .args .reading-workspace .now)) (c .before .before .before .before .before .before .before .before .before .before .before .before .before .before .demangle-stopped .ensures .0)) (c .before .before .before .before .before .before .before .before .before .before .before .before .before .before .demangle-stopped .ensures .0 .values) (shape-wrote (c .before .before .before .before .before .before .before .before .before .before .before .before .before .before .before .before .before .before .before .before .before .before .args .text .now) (c .before .before .before .before .before .before .before .before .before .before .before .before .before .before .before .before .before .before .before .before .before .before .args .ceiling) (c .before .before .before .before .before .before .before .before .before .before .before .before .before .before .before .before .before .before .before .before .before .before .args .k) (length (c .before .before .before .before .before .before .before .before .before .before .before .before .before .before .before .before .before .before .before .before .before .before .args .check-workspace .now)) (c .before .before .before .before .before .before .before .shape-stopped .ensures .0)) (c .before .before .before .before .before .before .before .shape-stopped .ensures .0 .values) (c .stopped-agrees .ensures)
 

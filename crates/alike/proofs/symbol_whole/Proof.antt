@@ -9,31 +9,31 @@ use Rattle.agreement.proofs.whole_agrees.Reads as whole-agrees-reads
 use Rattle.swift_demangle.proofs.demangle.Reads as demangle-reads
 use Rattle.swift_demangle.proofs.shape.Reads as shape-reads
 
--- src/lib.rt:142:9
+-- src/lib.rt:22:9
 demangle-requires : tie.Need-demangle-requires
 demangle-requires c κs = search needs
 
--- src/lib.rt:143:9
+-- src/lib.rt:23:9
 shape-requires : tie.Need-shape-requires
 shape-requires c κs = search needs
 
--- src/lib.rt:144:5
+-- src/lib.rt:24:5
 whole-agrees-requires : tie.Need-whole-agrees-requires
 whole-agrees-requires c κs = search needs
 
--- src/lib.rt:133:1
+-- src/lib.rt:13:1
 same-length : tie.Need-same-length
 same-length c = search needs
 
--- src/lib.rt:133:1
+-- src/lib.rt:13:1
 same-length-2 : tie.Need-same-length-2
 same-length-2 c = search needs
 
--- src/lib.rt:133:1
+-- src/lib.rt:13:1
 same-length-3 : tie.Need-same-length-3
 same-length-3 c = search needs
 
--- src/lib.rt:133:1
+-- src/lib.rt:13:1
 returns : tie.Need-returns
 returns c = whole-is (values (c .before .before .before .before .before .before .before .before .before .demangle .result)) (values (c .before .before .before .shape .result)) _ _ (c .whole-agrees .result) (c .whole-agrees .ensures) (c .before .before .before .before .before .before .before .before .before .demangle .ensures .0 .values) (c .before .before .before .shape .ensures .0)
 

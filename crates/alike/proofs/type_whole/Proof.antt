@@ -9,31 +9,31 @@ use Rattle.agreement.proofs.whole_agrees.Reads as whole-agrees-reads
 use Rattle.swift_demangle.proofs.demangle_type.Reads as demangle-type-reads
 use Rattle.swift_demangle.proofs.shape_type.Reads as shape-type-reads
 
--- src/lib.rt:156:9
+-- src/lib.rt:36:9
 demangle-type-requires : tie.Need-demangle-type-requires
 demangle-type-requires c κs = search needs
 
--- src/lib.rt:157:9
+-- src/lib.rt:37:9
 shape-type-requires : tie.Need-shape-type-requires
 shape-type-requires c κs = search needs
 
--- src/lib.rt:158:5
+-- src/lib.rt:38:5
 whole-agrees-requires : tie.Need-whole-agrees-requires
 whole-agrees-requires c κs = search needs
 
--- src/lib.rt:147:1
+-- src/lib.rt:27:1
 same-length : tie.Need-same-length
 same-length c = search needs
 
--- src/lib.rt:147:1
+-- src/lib.rt:27:1
 same-length-2 : tie.Need-same-length-2
 same-length-2 c = search needs
 
--- src/lib.rt:147:1
+-- src/lib.rt:27:1
 same-length-3 : tie.Need-same-length-3
 same-length-3 c = search needs
 
--- src/lib.rt:147:1
+-- src/lib.rt:27:1
 returns : tie.Need-returns
 returns c = whole-is (values (c .before .before .before .before .before .before .before .before .before .demangle-type .result)) (values (c .before .before .before .shape-type .result)) _ _ (c .whole-agrees .result) (c .whole-agrees .ensures) (c .before .before .before .before .before .before .before .before .before .demangle-type .ensures .0 .values) (c .before .before .before .shape-type .ensures .0)
 

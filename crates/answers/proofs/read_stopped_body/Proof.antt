@@ -32,7 +32,7 @@ enum-known-ended c = search needs
 
 -- src/lib.rt:128:17
 write-stack-requires : tie.Need-write-stack-requires
-write-stack-requires c κs = ran-ready (c .before .before .before .before .before .before .before .before .before .before .before .before .before .args .text .now) (c .before .before .before .before .before .before .before .before .before .before .before .before .before .args .start) (c .before .before .before .before .before .before .before .before .before .before .before .before .before .args .end) (c .before .before .before .before .before .before .before .before .before .before .before .before .before .args .ceiling) (c .before .before .before .before .before .before .before .before .before .before .before .before .before .args .workspace .now) _ (c .before .before .before .before .before .before .before .run .result .words) (c .before .before .before .before .before .before .before .before .before .before .before .before .before .args .k) _ (was-ran (c .before .before .before .before .before .before .before .run .result .end) (c .before .before .before .ended .given .1) (c .before .before .before .before .before .before .before .run .ensures))
+write-stack-requires c κs = ran-ready (c .before .before .before .before .before .before .before .before .before .before .before .before .before .args .text .now) (c .before .before .before .before .before .before .before .before .before .before .before .before .before .args .start) (c .before .before .before .before .before .before .before .before .before .before .before .before .before .args .end) (c .before .before .before .before .before .before .before .before .before .before .before .before .before .args .ceiling) (c .before .before .before .before .before .before .before .before .before .before .before .before .before .args .workspace .now) _ (c .before .before .before .before .before .before .before .run .result .words) _ _ (was-ran (c .before .before .before .before .before .before .before .run .result .end) (c .before .before .before .ended .given .1) (c .before .before .before .before .before .before .before .run .ensures))
 
 -- src/lib.rt:130:13
 stacked-requires : tie.Need-stacked-requires

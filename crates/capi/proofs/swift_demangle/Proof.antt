@@ -9,23 +9,23 @@ use Rattle.capi.proofs.swift_demangle.Lts as lts
 use Rattle.values.proofs.numbers.Reads as numbers-reads
 use Rattle.swift_demangle.proofs.demangle.Reads as demangle-reads
 
--- src/lib.rt:47:9
+-- src/lib.rt:22:9
 demangle-requires : tie.Need-demangle-requires
 demangle-requires c κs = search needs
 
--- src/lib.rt:48:15
+-- src/lib.rt:23:15
 numbers-requires : tie.Need-numbers-requires
 numbers-requires c κs = search needs
 
--- src/lib.rt:37:1
+-- src/lib.rt:12:1
 same-length : tie.Need-same-length
 same-length c = search needs
 
--- src/lib.rt:37:1
+-- src/lib.rt:12:1
 same-length-2 : tie.Need-same-length-2
 same-length-2 c = search needs
 
--- src/lib.rt:37:1
+-- src/lib.rt:12:1
 returns : tie.Need-returns
 returns c = (told (c .before .before .before .before .before .demangle .ensures .0) (c .numbers .ensures), scratch-told (ap (λ (v : Values). v .number) (c .before .before .before .before .before .demangle .ensures .0 .values)) (c .before .before .before .before .before .demangle .ensures .1))
 

@@ -9,23 +9,23 @@ use Rattle.capi.proofs.swift_demangle_stopped.Lts as lts
 use Rattle.values.proofs.numbers.Reads as numbers-reads
 use Rattle.swift_demangle.proofs.demangle_stopped.Reads as demangle-stopped-reads
 
--- src/lib.rt:106:9
+-- src/lib.rt:81:9
 demangle-stopped-requires : tie.Need-demangle-stopped-requires
 demangle-stopped-requires c κs = search needs
 
--- src/lib.rt:107:15
+-- src/lib.rt:82:15
 numbers-requires : tie.Need-numbers-requires
 numbers-requires c κs = search needs
 
--- src/lib.rt:95:1
+-- src/lib.rt:70:1
 same-length : tie.Need-same-length
 same-length c = search needs
 
--- src/lib.rt:95:1
+-- src/lib.rt:70:1
 same-length-2 : tie.Need-same-length-2
 same-length-2 c = search needs
 
--- src/lib.rt:95:1
+-- src/lib.rt:70:1
 returns : tie.Need-returns
 returns c = (told (c .before .before .before .before .before .demangle-stopped .ensures .0) (c .numbers .ensures), scratch-told (ap (λ (v : Values). v .number) (c .before .before .before .before .before .demangle-stopped .ensures .0 .values)) (c .before .before .before .before .before .demangle-stopped .ensures .1))
 

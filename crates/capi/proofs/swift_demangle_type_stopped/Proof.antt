@@ -9,23 +9,23 @@ use Rattle.capi.proofs.swift_demangle_type_stopped.Lts as lts
 use Rattle.values.proofs.numbers.Reads as numbers-reads
 use Rattle.swift_demangle.proofs.demangle_type_stopped.Reads as demangle-type-stopped-reads
 
--- src/lib.rt:122:9
+-- src/lib.rt:97:9
 demangle-type-stopped-requires : tie.Need-demangle-type-stopped-requires
 demangle-type-stopped-requires c κs = search needs
 
--- src/lib.rt:123:15
+-- src/lib.rt:98:15
 numbers-requires : tie.Need-numbers-requires
 numbers-requires c κs = search needs
 
--- src/lib.rt:111:1
+-- src/lib.rt:86:1
 same-length : tie.Need-same-length
 same-length c = search needs
 
--- src/lib.rt:111:1
+-- src/lib.rt:86:1
 same-length-2 : tie.Need-same-length-2
 same-length-2 c = search needs
 
--- src/lib.rt:111:1
+-- src/lib.rt:86:1
 returns : tie.Need-returns
 returns c = (told (c .before .before .before .before .before .demangle-type-stopped .ensures .0) (c .numbers .ensures), scratch-told (ap (λ (v : Values). v .number) (c .before .before .before .before .before .demangle-type-stopped .ensures .0 .values)) (c .before .before .before .before .before .demangle-type-stopped .ensures .1))
 

@@ -10,19 +10,19 @@ use Rattle.capi.proofs.swift_shape.Lts as lts
 use Rattle.values.proofs.numbers.Reads as numbers-reads
 use Rattle.swift_demangle.proofs.shape.Reads as shape-reads
 
--- src/lib.rt:76:9
+-- src/lib.rt:51:9
 shape-requires : tie.Need-shape-requires
 shape-requires c κs = search needs
 
--- src/lib.rt:77:15
+-- src/lib.rt:52:15
 numbers-requires : tie.Need-numbers-requires
 numbers-requires c κs = search needs
 
--- src/lib.rt:67:1
+-- src/lib.rt:42:1
 same-length : tie.Need-same-length
 same-length c = search needs
 
--- src/lib.rt:67:1
+-- src/lib.rt:42:1
 returns : tie.Need-returns
 returns c = (c .numbers .ensures ∙ ap six (c .before .before .before .shape .ensures .0), scratch-told (ap (λ (v : Values). v .number) (c .before .before .before .shape .ensures .0)) (c .before .before .before .shape .ensures .1))
 

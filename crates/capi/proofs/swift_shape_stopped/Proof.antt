@@ -9,23 +9,23 @@ use Rattle.capi.proofs.swift_shape_stopped.Lts as lts
 use Rattle.values.proofs.numbers.Reads as numbers-reads
 use Rattle.swift_demangle.proofs.shape_stopped.Reads as shape-stopped-reads
 
--- src/lib.rt:138:9
+-- src/lib.rt:113:9
 shape-stopped-requires : tie.Need-shape-stopped-requires
 shape-stopped-requires c κs = search needs
 
--- src/lib.rt:139:15
+-- src/lib.rt:114:15
 numbers-requires : tie.Need-numbers-requires
 numbers-requires c κs = search needs
 
--- src/lib.rt:127:1
+-- src/lib.rt:102:1
 same-length : tie.Need-same-length
 same-length c = search needs
 
--- src/lib.rt:127:1
+-- src/lib.rt:102:1
 same-length-2 : tie.Need-same-length-2
 same-length-2 c = search needs
 
--- src/lib.rt:127:1
+-- src/lib.rt:102:1
 returns : tie.Need-returns
 returns c = (told (c .before .before .before .before .before .shape-stopped .ensures .0) (c .numbers .ensures), scratch-told (ap (λ (v : Values). v .number) (c .before .before .before .before .before .shape-stopped .ensures .0 .values)) (c .before .before .before .before .before .shape-stopped .ensures .1))
 

@@ -10,19 +10,19 @@ use Rattle.capi.proofs.swift_shape_type.Lts as lts
 use Rattle.values.proofs.numbers.Reads as numbers-reads
 use Rattle.swift_demangle.proofs.shape_type.Reads as shape-type-reads
 
--- src/lib.rt:90:9
+-- src/lib.rt:65:9
 shape-type-requires : tie.Need-shape-type-requires
 shape-type-requires c κs = search needs
 
--- src/lib.rt:91:15
+-- src/lib.rt:66:15
 numbers-requires : tie.Need-numbers-requires
 numbers-requires c κs = search needs
 
--- src/lib.rt:81:1
+-- src/lib.rt:56:1
 same-length : tie.Need-same-length
 same-length c = search needs
 
--- src/lib.rt:81:1
+-- src/lib.rt:56:1
 returns : tie.Need-returns
 returns c = (c .numbers .ensures ∙ ap six (c .before .before .before .shape-type .ensures .0), scratch-told (ap (λ (v : Values). v .number) (c .before .before .before .shape-type .ensures .0)) (c .before .before .before .shape-type .ensures .1))
 

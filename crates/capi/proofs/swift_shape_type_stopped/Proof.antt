@@ -9,23 +9,23 @@ use Rattle.capi.proofs.swift_shape_type_stopped.Lts as lts
 use Rattle.values.proofs.numbers.Reads as numbers-reads
 use Rattle.swift_demangle.proofs.shape_type_stopped.Reads as shape-type-stopped-reads
 
--- src/lib.rt:154:9
+-- src/lib.rt:129:9
 shape-type-stopped-requires : tie.Need-shape-type-stopped-requires
 shape-type-stopped-requires c κs = search needs
 
--- src/lib.rt:155:15
+-- src/lib.rt:130:15
 numbers-requires : tie.Need-numbers-requires
 numbers-requires c κs = search needs
 
--- src/lib.rt:143:1
+-- src/lib.rt:118:1
 same-length : tie.Need-same-length
 same-length c = search needs
 
--- src/lib.rt:143:1
+-- src/lib.rt:118:1
 same-length-2 : tie.Need-same-length-2
 same-length-2 c = search needs
 
--- src/lib.rt:143:1
+-- src/lib.rt:118:1
 returns : tie.Need-returns
 returns c = (told (c .before .before .before .before .before .shape-type-stopped .ensures .0) (c .numbers .ensures), scratch-told (ap (λ (v : Values). v .number) (c .before .before .before .before .before .shape-type-stopped .ensures .0 .values)) (c .before .before .before .before .before .shape-type-stopped .ensures .1))
 

@@ -10,16 +10,16 @@ use Rattle.endings.proofs.measured.Reads as reads
 use Rattle.endings.proofs.measured.Lts as lts
 use Rattle.endings.proofs.counts.Reads as counts-reads
 
--- src/lib.rt:42:9
+-- src/lib.rt:26:9
 returns : tie.Need-returns
 unfolding values number refusal
 returns c = record { fits = λ h. absurd (omega (arith, h, c .if1 .taken)); past = λ h. refl }
 
--- src/lib.rt:44:22
+-- src/lib.rt:28:22
 counts-requires : tie.Need-counts-requires
 counts-requires c κs = search needs
 
--- src/lib.rt:38:1
+-- src/lib.rt:22:1
 returns-2 : tie.Need-returns-2
 unfolding values number refusal
 returns-2 c = record { fits = λ h. counted (c .before .before .args .budget) (c .counts .ensures); past = λ h. absurd (omega (arith, h, c .before .if1 .left)) }

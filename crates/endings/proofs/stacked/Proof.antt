@@ -12,23 +12,23 @@ use Rattle.endings.proofs.stacked.Reads as reads
 use Rattle.endings.proofs.stacked.Lts as lts
 use Rattle.endings.proofs.counts.Reads as counts-reads
 
--- src/lib.rt:52:26
+-- src/lib.rt:36:26
 enum-known-written : tie.Need-enum-known-written
 enum-known-written c = search needs
 
--- src/lib.rt:52:49
+-- src/lib.rt:36:49
 counts-requires : tie.Need-counts-requires
 counts-requires c κs = search needs
 
--- src/lib.rt:53:42
+-- src/lib.rt:37:42
 enum-told : tie.Need-enum-told
 enum-told c = search needs
 
--- src/lib.rt:48:1
+-- src/lib.rt:32:1
 returns : tie.Need-returns
 returns c = stacked-numbers (c .before .before .before .before .args .budget) _ (c .before .before .written .given .1) (c .counts .ensures)
 
--- src/lib.rt:48:1
+-- src/lib.rt:32:1
 returns-2 : tie.Need-returns-2
 returns-2 c = stacked-past (c .before .before .args .budget) _ (c .enum-told .given .1)
 

@@ -16,31 +16,31 @@ Inv-loop text from at₀ at = (from ≤ at) × (at ≤ length text) × ((i : _) 
 abbrev μ-loop : tie.MeasureT-loop
 μ-loop text from at₀ at = length text - at
 
--- src/lib.rt:139:5
+-- src/lib.rt:12:5
 loop-holds : tie.Need-loop-holds Inv-loop μ-loop
 loop-holds c = (omega arith, omega arith, λ i a b. absurd (omega arith))
 
--- src/lib.rt:140:12
+-- src/lib.rt:13:12
 shared-slice-read-if1 : tie.Need-shared-slice-read-if1 Inv-loop μ-loop
 shared-slice-read-if1 c = omega arith
 
--- src/lib.rt:141:13
+-- src/lib.rt:14:13
 returns : tie.Need-returns Inv-loop μ-loop
 returns c = record { order = c .before .before .before .loop .inv .0; inside = omega (arith, c .before .before .before .loop .inv .1); clear = c .before .before .before .loop .inv .2; stop = λ _. c .if1 .taken }
 
--- src/lib.rt:143:9
+-- src/lib.rt:16:9
 add-at : tie.Need-add-at Inv-loop μ-loop
 add-at c = omega arith
 
--- src/lib.rt:139:5
+-- src/lib.rt:12:5
 loop-less : tie.Need-loop-less Inv-loop μ-loop
 loop-less c = omega arith
 
--- src/lib.rt:139:5
+-- src/lib.rt:12:5
 loop-again : tie.Need-loop-again Inv-loop μ-loop
 loop-again c = (omega (arith, c .before .before .before .loop .inv .0), omega arith, clear-next (now (c .before .before .before .before .args .text)) (c .before .before .before .before .args .from) (c .before .before .before .loop .at) (c .before .before .before .loop .inv .2) (c .if1 .left))
 
--- src/lib.rt:134:1
+-- src/lib.rt:7:1
 returns-2 : tie.Need-returns-2 Inv-loop μ-loop
 returns-2 c = record { order = c .before .loop .inv .0; inside = c .before .loop .inv .1; clear = c .before .loop .inv .2; stop = λ h. absurd (omega arith) }
 

@@ -7,19 +7,19 @@ use Rattle.line_forms.proofs.put_field.Lts as lts
 use Rattle.numerals.proofs.put_decimal.Reads as put-decimal-reads
 use Rattle.output.proofs.put_byte.Reads as put-byte-reads
 
--- src/lib.rt:42:9
+-- src/lib.rt:20:9
 put-byte-requires : tie.Need-put-byte-requires
 put-byte-requires c κs = search needs
 
--- src/lib.rt:43:5
+-- src/lib.rt:21:5
 put-decimal-requires : tie.Need-put-decimal-requires
 put-decimal-requires c κs = search needs
 
--- src/lib.rt:38:1
+-- src/lib.rt:16:1
 same-length : tie.Need-same-length
 same-length c = search needs
 
--- src/lib.rt:38:1
+-- src/lib.rt:16:1
 returns : tie.Need-returns
 returns c = field-wrote _ (c .before .before .before .before .before .before .put-byte .ensures) (c .before .before .put-decimal .ensures)
 

@@ -12,63 +12,63 @@ use Rattle.lines.proofs.read.Reads as read-reads
 use Rattle.output.proofs.put_byte.Reads as put-byte-reads
 use Rattle.values.proofs.number.Reads as number-reads
 
--- src/lib.rt:74:9
+-- src/lib.rt:46:9
 put-byte-requires : tie.Need-put-byte-requires
 put-byte-requires c κs = search needs
 
--- src/lib.rt:75:9
+-- src/lib.rt:47:9
 put-byte-requires-2 : tie.Need-put-byte-requires-2
 put-byte-requires-2 c κs = search needs
 
--- src/lib.rt:76:11
+-- src/lib.rt:48:11
 read-requires : tie.Need-read-requires
 read-requires c κs = search needs
 
--- src/lib.rt:77:29
+-- src/lib.rt:49:29
 enum-known-n : tie.Need-enum-known-n
 enum-known-n c = search needs
 
--- src/lib.rt:77:49
+-- src/lib.rt:49:49
 add-put-byte : tie.Need-add-put-byte
 add-put-byte c = let r = line-room (c .before .before .before .before .before .before .before .before .before .before .before .before .before .before .before .before .before .before .before .before .before .before .pre .1) (c .before .before .before .before .before .before .before .before .before .before .before .before .before .before .before .before .before .put-byte .ensures) (c .before .before .before .before .before .before .before .before .before .before .before .before .before .put-byte2 .ensures) _ (c .before .before .before .before .before .before .before .before .read .ensures .0) (demangle-fits (now (c .before .before .before .before .before .before .before .before .before .before .before .before .before .before .before .before .before .before .before .before .before .before .args .line)) 256 16384 16384) (c .before .before .n .given .1) in omega (arith, r .past, r .small)
 
--- src/lib.rt:77:35
+-- src/lib.rt:49:35
 put-byte-requires-3 : tie.Need-put-byte-requires-3
 put-byte-requires-3 c κs = line-room (c .before .before .before .before .before .before .before .before .before .before .before .before .before .before .before .before .before .before .before .before .before .before .pre .1) (c .before .before .before .before .before .before .before .before .before .before .before .before .before .before .before .before .before .put-byte .ensures) (c .before .before .before .before .before .before .before .before .before .before .before .before .before .put-byte2 .ensures) _ (c .before .before .before .before .before .before .before .before .read .ensures .0) (demangle-fits (now (c .before .before .before .before .before .before .before .before .before .before .before .before .before .before .before .before .before .before .before .before .before .before .args .line)) 256 16384 16384) (c .before .before .n .given .1)
 
--- src/lib.rt:79:25
+-- src/lib.rt:51:25
 enum-known-refusal : tie.Need-enum-known-refusal
 enum-known-refusal c = search needs
 
--- src/lib.rt:82:13
+-- src/lib.rt:54:13
 number-requires : tie.Need-number-requires
 number-requires c κs = search needs
 
--- src/lib.rt:79:44
+-- src/lib.rt:51:44
 put-refusal-requires : tie.Need-put-refusal-requires
 put-refusal-requires c κs = search needs
 
--- src/lib.rt:68:1
+-- src/lib.rt:40:1
 same-length : tie.Need-same-length
 same-length c = search needs
 
--- src/lib.rt:68:1
+-- src/lib.rt:40:1
 same-length-2 : tie.Need-same-length-2
 same-length-2 c = search needs
 
--- src/lib.rt:68:1
+-- src/lib.rt:40:1
 returns : tie.Need-returns
 returns c = (name-accepted (c .before .before .before .before .before .before .before .before .before .before .before .before .before .before .before .before .before .before .before .before .before .before .before .before .before .pre .1) (c .before .before .before .before .before .before .before .before .before .before .before .before .before .before .before .before .before .before .before .before .put-byte .ensures) (c .before .before .before .before .before .before .before .before .before .before .before .before .before .before .before .before .put-byte2 .ensures) _ (c .before .before .before .before .before .before .before .before .before .before .before .read .ensures .0) (demangle-fits (now (c .before .before .before .before .before .before .before .before .before .before .before .before .before .before .before .before .before .before .before .before .before .before .before .before .before .args .line)) 256 16384 16384) (c .before .before .before .before .before .n .given .1) (c .before .before .put-byte3 .ensures), c .before .before .before .before .before .before .before .before .before .before .before .read .ensures .1)
 
--- src/lib.rt:68:1
+-- src/lib.rt:40:1
 same-length-3 : tie.Need-same-length-3
 same-length-3 c = search needs
 
--- src/lib.rt:68:1
+-- src/lib.rt:40:1
 same-length-4 : tie.Need-same-length-4
 same-length-4 c = search needs
 
--- src/lib.rt:68:1
+-- src/lib.rt:40:1
 returns-2 : tie.Need-returns-2
 returns-2 c = (name-refused (c .before .before .before .before .before .before .before .before .before .before .before .before .before .before .before .before .before .before .before .before .before .before .before .before .before .before .pre .1) (c .before .before .before .before .before .before .before .before .before .before .before .before .before .before .before .before .before .before .before .before .before .put-byte .ensures) (c .before .before .before .before .before .before .before .before .before .before .before .before .before .before .before .before .before .put-byte2 .ensures) _ (c .before .before .before .before .before .before .before .before .before .before .before .before .read .ensures .0) (demangle-fits (now (c .before .before .before .before .before .before .before .before .before .before .before .before .before .before .before .before .before .before .before .before .before .before .before .before .before .before .args .line)) 256 16384 16384) (c .before .before .before .before .before .before .refusal .given .1) (c .before .before .before .number .ensures) (c .before .before .put-refusal .ensures), c .before .before .before .before .before .before .before .before .before .before .before .before .read .ensures .1)
 

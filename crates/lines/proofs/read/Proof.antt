@@ -8,35 +8,35 @@ use Rattle.lines.proofs.read.Reads as reads
 use Rattle.lines.proofs.read.Lts as lts
 use Rattle.swift_demangle.proofs.demangle.Reads as demangle-reads
 
--- src/lib.rt:63:15
+-- src/lib.rt:35:15
 add-end : tie.Need-add-end
 add-end c = search needs
 
--- src/lib.rt:64:49
+-- src/lib.rt:36:49
 sub-demangle : tie.Need-sub-demangle
 sub-demangle c = search needs
 
--- src/lib.rt:64:49
+-- src/lib.rt:36:49
 part-demangle-start : tie.Need-part-demangle-start
 part-demangle-start c = search needs
 
--- src/lib.rt:64:49
+-- src/lib.rt:36:49
 part-demangle-end : tie.Need-part-demangle-end
 part-demangle-end c = search needs
 
--- src/lib.rt:64:5
+-- src/lib.rt:36:5
 demangle-requires : tie.Need-demangle-requires
 demangle-requires c κs = search needs
 
--- src/lib.rt:59:1
+-- src/lib.rt:31:1
 same-length : tie.Need-same-length
 same-length c = search needs
 
--- src/lib.rt:59:1
+-- src/lib.rt:31:1
 same-length-2 : tie.Need-same-length-2
 same-length-2 c = search needs
 
--- src/lib.rt:59:1
+-- src/lib.rt:31:1
 returns : tie.Need-returns
 returns c = (read-part {o = now (c .before .before .before .before .before .before .before .before .before .before .args .out)} {at = c .before .before .before .before .before .before .before .before .before .before .args .at} (now (c .before .before .before .before .before .before .before .before .before .before .args .line)) (c .before .before .before .before .before .before .before .before .before .before .pre .1) (c .before .before .before .before .before .before .before .before .before .before .pre .0) refl (c .before .before .before .before .demangle .ensures .0) (put-back (now (c .before .before .before .before .before .before .before .before .before .before .args .out)) (c .before .before .before .before .demangle .last .1 .1 .1 .0) (c .before .before .before .before .before .before .before .before .before .before .args .at)), c .before .before .before .before .demangle .ensures .1 .long ∙ c .before .before .before .before .before .before .before .before .before .before .pre .0)
 

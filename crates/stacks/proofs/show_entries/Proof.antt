@@ -14,43 +14,43 @@ Inv-loop out n i₀ i = (i ≤ n) × (n ≤ length out)
 abbrev μ-loop : tie.MeasureT-loop
 μ-loop out n i₀ i = n - i
 
--- src/main.rt:78:9
+-- src/main.rt:61:9
 returns : tie.Need-returns Inv-loop μ-loop
 returns c = search needs
 
--- src/main.rt:80:5
+-- src/main.rt:63:5
 begin-requires : tie.Need-begin-requires Inv-loop μ-loop
 begin-requires c κs = search needs
 
--- src/main.rt:82:5
+-- src/main.rt:65:5
 loop-holds : tie.Need-loop-holds Inv-loop μ-loop
 loop-holds c = search needs
 
--- src/main.rt:83:12
+-- src/main.rt:66:12
 sub-if2 : tie.Need-sub-if2 Inv-loop μ-loop
 sub-if2 c = search needs
 
--- src/main.rt:84:13
+-- src/main.rt:67:13
 returns-2 : tie.Need-returns-2 Inv-loop μ-loop
 returns-2 c = search needs
 
--- src/main.rt:86:9
+-- src/main.rt:69:9
 show-entry-requires : tie.Need-show-entry-requires Inv-loop μ-loop
 show-entry-requires c κs = search needs
 
--- src/main.rt:87:9
+-- src/main.rt:70:9
 add-i : tie.Need-add-i Inv-loop μ-loop
 add-i c = search needs
 
--- src/main.rt:82:5
+-- src/main.rt:65:5
 loop-less : tie.Need-loop-less Inv-loop μ-loop
 loop-less c = search needs
 
--- src/main.rt:82:5
+-- src/main.rt:65:5
 loop-again : tie.Need-loop-again Inv-loop μ-loop
 loop-again c = search needs
 
--- src/main.rt:76:1
+-- src/main.rt:59:1
 returns-3 : tie.Need-returns-3 Inv-loop μ-loop
 returns-3 c = search needs
 

@@ -6,19 +6,19 @@ use Rattle.swift_demangle.proofs.demangle_stopped.Reads as reads
 use Rattle.swift_demangle.proofs.demangle_stopped.Lts as lts
 use Rattle.calls.proofs.read_stopped.Reads as read-stopped-reads
 
--- src/lib.rt:140:5
+-- src/lib.rt:51:5
 read-stopped-requires : tie.Need-read-stopped-requires
 read-stopped-requires c κs = search needs
 
--- src/lib.rt:131:1
+-- src/lib.rt:42:1
 same-length : tie.Need-same-length
 same-length c = search needs
 
--- src/lib.rt:131:1
+-- src/lib.rt:42:1
 same-length-2 : tie.Need-same-length-2
 same-length-2 c = search needs
 
--- src/lib.rt:131:1
+-- src/lib.rt:42:1
 returns : tie.Need-returns
 unfolding Reading.demangle-stopped Reading.read-stopped
 returns c = c .before .before .before .before .read-stopped .ensures

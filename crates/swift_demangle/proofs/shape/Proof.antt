@@ -6,15 +6,15 @@ use Rattle.swift_demangle.proofs.shape.Reads as reads
 use Rattle.swift_demangle.proofs.shape.Lts as lts
 use Rattle.calls.proofs.check.Reads as check-reads
 
--- src/lib.rt:120:5
+-- src/lib.rt:31:5
 check-requires : tie.Need-check-requires
 check-requires c κs = search needs
 
--- src/lib.rt:117:1
+-- src/lib.rt:28:1
 same-length : tie.Need-same-length
 same-length c = search needs
 
--- src/lib.rt:117:1
+-- src/lib.rt:28:1
 returns : tie.Need-returns
 unfolding Check.shape
 returns c = c .before .before .check .ensures

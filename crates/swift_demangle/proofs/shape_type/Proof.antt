@@ -6,15 +6,15 @@ use Rattle.swift_demangle.proofs.shape_type.Reads as reads
 use Rattle.swift_demangle.proofs.shape_type.Lts as lts
 use Rattle.calls.proofs.check.Reads as check-reads
 
--- src/lib.rt:127:5
+-- src/lib.rt:38:5
 check-requires : tie.Need-check-requires
 check-requires c κs = search needs
 
--- src/lib.rt:124:1
+-- src/lib.rt:35:1
 same-length : tie.Need-same-length
 same-length c = search needs
 
--- src/lib.rt:124:1
+-- src/lib.rt:35:1
 returns : tie.Need-returns
 unfolding Check.shape-type
 returns c = c .before .before .check .ensures
