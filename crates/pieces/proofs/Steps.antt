@@ -88,15 +88,9 @@ module _ (more punycoded : Bool) (t : Text) {u : Text} where
   unfolding literal-piece
   literal-closed e = ap (unless-closed more punycoded) e
 
-  literal-open : next-if (is "0") t ≡ ok false u → literal-piece more punycoded t ≡ of-length more punycoded (natural u)
+  pub literal-open : next-if (is "0") t ≡ ok false u → literal-piece more punycoded t ≡ of-length more punycoded (natural u)
   unfolding literal-piece
   literal-open e = ap (unless-closed more punycoded) e
-
-  pub literal-refused : {r : ℕ} → next-if (is "0") t ≡ ok false u → natural u ≡ refused r → literal-piece more punycoded t ≡ end
-  literal-refused e k = literal-open e ∙ ap (of-length more punycoded) k
-
-  pub literal-read : {n : ℕ} {v : Text} → next-if (is "0") t ≡ ok false u → natural u ≡ ok n v → literal-piece more punycoded t ≡ of-bytes more (counted punycoded n v)
-  literal-read e k = literal-open e ∙ ap (of-length more punycoded) k
 
 -- a piece behind a step
 pub piece-is : (text : Text) {out out′ : Piece} {least least′ : ℕ} (punycoded : Bool) → out ≡ out′ → least ≤ least′ → (r : Answer) → PieceIs out′ text least′ punycoded r → PieceIs out text least punycoded r

@@ -2,7 +2,7 @@
 ghost use mathlib.Core.Path.{_≡_};
 ghost use Prim.Native.Nat.{_+_, _≤_, _<_};
 ghost use lib.ListN.{length, drop, getElem?};
-ghost use Rattle.definition.specs.Text.{Text};
+ghost use Rattle.definition.specs.Text.{Text, natural};
 ghost use Rattle.words.specs.Table.{table, Fitting, lent};
 ghost use Rattle.pieces.specs.Pieces as P;
 ghost use Rattle.pieces.specs.Answers.{Begun, PieceIs, Passed};
@@ -113,7 +113,18 @@ fn counted(text: &[u8], at: usize, n: usize, more: bool, punycoded: bool) -> Pie
     Piece::Part(from, to, last)
 }
 
-// A length and its bytes, unless a `0` ends the name.
+// A length and its bytes.
+pub fn of_length(text: &[u8], at: usize, more: bool, punycoded: bool) -> Piece
+    requires { ⌜ at ≤ length (now text) ⌝ }
+    ensures { λ r. ⌜ PieceIs (P.of-length more punycoded (natural (drop at (now (text .entry))))) (now (text .entry)) (at + 1) punycoded r ⌝ }
+{
+    match natural(text, Cursor { at }) {
+        Number::Read(n, c) => counted(text, c.at, n, more, punycoded),
+        Number::Refused(_) => Piece::End,
+    }
+}
+
+// The same, unless a `0` ends the name.
 fn literal(text: &[u8], at: usize, more: bool, punycoded: bool) -> Piece
     requires { ⌜ at ≤ length (now text) ⌝ }
     ensures { λ r. ⌜ PieceIs (P.literal-piece more punycoded (drop at (now (text .entry)))) (now (text .entry)) (at + 1) punycoded r ⌝ }
@@ -124,10 +135,7 @@ fn literal(text: &[u8], at: usize, more: bool, punycoded: bool) -> Piece
     if closed {
         return Piece::End;
     }
-    match natural(text, next) {
-        Number::Read(n, c) => counted(text, c.at, n, more, punycoded),
-        Number::Refused(_) => Piece::End,
-    }
+    of_length(text, next.at, more, punycoded)
 }
 
 // The piece at the cursor.

@@ -8,13 +8,14 @@ use native.Mathlib.Omega.{arith}
 use native.Mathlib.Nat.{eq-or-lt-of-le}
 use borrow.Author.Tests.{eq-eqb, ne-eqb}
 use lib.Dec.{eqb}
-use lib.ListN.{length, take, drop, length-append, length-drop}
+use lib.ListN.{length, getD, take, drop, length-append, length-drop}
 use lib.Seq.{drop-drop}
-use Rattle.definition.specs.Base.{Name, same}
-use Rattle.definition.specs.Text.{Text}
+use Rattle.definition.specs.Base.{Name, same, is, Out, ok, refused}
+use Rattle.definition.specs.Text.{Text, next-if, natural, peek}
 use Rattle.words.specs.Table.{part, table}
 use Rattle.words.specs.declared.Words.{Words}
-use Rattle.pieces.specs.Pieces.{Piece, piece, end, piece-of, lead, Follows, nothing, after}
+use Rattle.pieces.specs.Pieces.{Piece, piece, end, counted, of-bytes, of-length, literal-piece, piece-of, lead, Follows, nothing, after}
+use Rattle.pieces.proofs.Steps.{start-plain, literal-open, piece-plain}
 use Rattle.output.specs.Sink.{Room, Wrote, Rest, rest-start, rest-then, rest-end, rest-past}
 use Rattle.spelling.specs.Spelled.{Spells, LengthIs, Appended}
 use Rattle.pieces.specs.Answers.{Begun, Taken, PieceIs}
@@ -22,7 +23,7 @@ use Rattle.pieces.specs.declared.Speller.{Speller}
 use Rattle.pieces.specs.declared.Piece.{Piece as Answer}
 use Rattle.pieces.specs.declared.Piece.the-variants as Answer
 use Rattle.words.proofs.Parts.{part-length}
-use Rattle.text.proofs.Steps.{front, ended, differ}
+use Rattle.text.proofs.Steps.{front, ended, differ, next-if-leaves}
 use Rattle.spelling.proofs.Reading.{spelled-again}
 
 -- WHAT FOLLOWS A PIECE
@@ -66,6 +67,21 @@ same-long : (a f : Name) → same a (take (length a) f) ≡ true → length a �
 same-long [] f e = omega arith
 same-long (x ∷ a) [] e = absurd (differ (sym e))
 same-long (x ∷ a) (y ∷ f) e = let h : length a ≤ length f = same-long a f (under (eqb x y) (same a (take (length a) f)) e) in omega arith
+
+-- A LENGTH AND ITS BYTES, WHERE NO WORDS BY LETTER MAY COME
+-- no text is left behind them
+last-bytes : {a : Name} {more : Bool} {t : Text} (o : Out Text Name) → of-bytes false o ≡ piece a more t → (more ≡ false) × (t ≡ [])
+last-bytes (ok s u) e = (cc, cc)
+last-bytes (refused r) e = let z : _≡_ {A = ℕ} 0 1 = cc in absurd (omega arith)
+
+last-length : {a : Name} {more : Bool} {t : Text} (punycoded : Bool) (o : Out Text ℕ) → of-length false punycoded o ≡ piece a more t → (more ≡ false) × (t ≡ [])
+last-length punycoded (ok n u) e = last-bytes (counted punycoded n u) e
+last-length punycoded (refused r) e = let z : _≡_ {A = ℕ} 0 1 = cc in absurd (omega arith)
+
+-- so the name ends there
+no-text : (words : List Name) (punycoded : Bool) → piece-of words false punycoded [] ≡ end
+unfolding piece-of literal-piece next-if natural peek
+no-text words punycoded = refl
 
 -- A LOOP
 module _ (text : Text) (w : Words) (p : ℕ) where
@@ -161,6 +177,33 @@ module _ (text : Text) (w : Words) (p : ℕ) where
 
     pub writing-end : here s ≡ end → Appended text w p room o₀ o at₀ r
     writing-end e = record { is = left-end s {R = λ name. Wrote room o₀ o at₀ name r} e (c .left) (λ name k. rest-end k); next = c .next; len = c .len }
+
+  -- a name that begins with no `0`: a length and its bytes
+  module _ {room at : ℕ} {o : List ℕ} (h : Room room o at) (l : p < length text) (z : getD text p 0 ≡ 48 → ⊥) where
+    abbrev plain : Speller
+    plain = record { at = p; more = false; punycoded = false }
+
+    abbrev bytes-there : Piece
+    bytes-there = of-length false false (natural (drop p text))
+
+    no-zero : next-if (is "0") (drop p text) ≡ ok false (drop p text)
+    no-zero = next-if-leaves text p (is "0") l (ne-eqb (getD text p 0) 48 z)
+
+    there : here plain ≡ bytes-there
+    there = piece-plain (table text w) false text p ∙ literal-open false false (drop p text) no-zero
+
+    begun : Writing room o at o plain at
+    begun = writing-first h (record { is = start-plain (drop p text) no-zero; inside = omega arith })
+
+    pub plain-put : {from to r : ℕ} {next : Speller} {o' : List ℕ} → Taken bytes-there text (p + 1) false from to next → Wrote room o o' at (part text from to) r → Appended text w p room o o' at r
+    plain-put {from} {to} {r} {next} {o'} t v =
+        let (a, b) = last-length false (natural (drop p text)) (t .is) in
+        let k : Taken (here plain) text (p + 1) false from to next = record { is = there ∙ t .is; kept = t .kept; order = t .order; inside = t .inside; onward = t .onward; within = t .within } in
+        writing-end room o at o' next r (writing-next room o at o plain at begun k v)
+        (ap (λ (m : Bool). piece-of (table text w) m (next .punycoded) (drop (next .at) text)) a ∙ ap (piece-of (table text w) false (next .punycoded)) b ∙ no-text (table text w) (next .punycoded))
+
+    pub plain-none : bytes-there ≡ end → Appended text w p room o o at at
+    plain-none e = writing-end room o at o plain at begun (there ∙ e)
 
   -- NAME_IS
   -- the name up to the cursor is fixed[..k]

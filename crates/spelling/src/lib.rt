@@ -10,6 +10,7 @@ use output::put_part;
 use pieces::Piece;
 use pieces::first;
 use pieces::next_piece;
+use pieces::of_length;
 
 // Whether the text begins with these bytes.
 fn begins(text: &[u8], front: &[u8]) -> bool
@@ -62,8 +63,8 @@ pub fn name_length(
     }
 }
 
-// Appends the name at p, and stops once past room.
-pub fn put_name(
+// Appends the name at p, piece by piece, and stops once past room.
+fn put_pieces(
     out: &mut [u8],
     at: usize,
     room: usize,
@@ -93,6 +94,36 @@ pub fn put_name(
             }
         }
     }
+}
+
+// Appends the name at p. One that begins with no `0` is a length and its bytes.
+pub fn put_name(
+    out: &mut [u8],
+    at: usize,
+    room: usize,
+    text: &[u8],
+    p: usize,
+    starts: &[u16; 26],
+    lengths: &[u16; 26],
+    known: usize,
+) -> usize
+    requires { ⌜ Room room (now out) at ⌝ }
+    requires { ⌜ (p ≤ length (now text)) × ((length (now text) ≤ 65535) × Fitting (now text) (lent (now starts) (now lengths) known)) ⌝ }
+    ensures { λ r. ⌜ Appended (now (text .entry)) (lent (now (starts .entry)) (now (lengths .entry)) known) p room (now (out .entry)) (now (out .exit)) at r ⌝ }
+{
+    if p < text.len() {
+        if text[p] != b'0' {
+            match of_length(text, p, false, false) {
+                Piece::Part(from, to, _) => {
+                    return put_part(out, at, room, text, from, to);
+                }
+                Piece::End => {
+                    return at;
+                }
+            }
+        }
+    }
+    put_pieces(out, at, room, text, p, starts, lengths, known)
 }
 
 // Whether the name at p is `fixed`.

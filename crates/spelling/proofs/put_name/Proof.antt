@@ -1,80 +1,65 @@
 -- `spelling::put_name` meets its contract. Assumes nothing.
-use Prim.Native.Nat.{_+_, _-_}
-use native.Mathlib.Omega.{arith}
-use lib.ListN.{length, drop}
+use mathlib.Core.Bool.{false}
+use Prim.Native.Nat.{_+_}
+use lib.ListN.{drop}
 use borrow.Author.Needs.{needs}
-use Rattle.words.specs.Table.{table, lent}
-use Rattle.pieces.specs.Pieces.{piece-of}
+use Rattle.definition.specs.Text.{natural}
+use Rattle.words.specs.Table.{lent}
+use Rattle.pieces.specs.Pieces.{of-length}
 use Rattle.pieces.specs.Answers.{Taken}
-use Rattle.spelling.proofs.Loops.{taken-part, taken-end, Writing, writing-first, writing-next, writing-past, writing-end}
+use Rattle.spelling.proofs.Loops.{taken-part, taken-end, plain-put, plain-none}
 use Rattle.spelling.proofs.put_name.Statement.{statement}
 use Rattle.spelling.proofs.put_name.Tie as tie
 
-abbrev Inv-loop : tie.InvT-loop
-Inv-loop out₀ at room text p starts lengths known s₀ r₀ out s r = Writing text (lent starts lengths known) p room out₀ at out s r
+-- the bytes behind the length
+taken : (c : tie.After-from) → Taken (of-length false false (natural (drop (c .before .before .before .before .before .before .before .before .args .p) (c .before .before .before .before .before .before .before .before .args .text .now)))) (c .before .before .before .before .before .before .before .before .args .text .now) (c .before .before .before .before .before .before .before .before .args .p + 1) false (c .from .given .0 .0) (c .from .given .0 .1 .0) (c .from .given .0 .1 .1 .0)
+taken c = taken-part (c .before .before .before .before .before .before .before .before .args .text .now) (c .before .before .before .before .before .before .before .before .args .p + 1) false (c .from .given .1) (c .before .before .of-length .ensures)
 
-abbrev μ-loop : tie.MeasureT-loop
-μ-loop out₀ at room text p starts lengths known s₀ r₀ out s r = length text - s .at
+shared-slice-read-if2 : tie.Need-shared-slice-read-if2
+shared-slice-read-if2 c = search needs
 
--- the piece that the match took apart
-taken : (c : tie.After-from Inv-loop μ-loop) → Taken (piece-of (table (c .before .before .before .before .before .before .before .before .args .text .now) (lent (c .before .before .before .before .before .before .before .before .args .starts .now) (c .before .before .before .before .before .before .before .before .args .lengths .now) (c .before .before .before .before .before .before .before .before .args .known))) (c .before .before .before .before .loop .s .more) (c .before .before .before .before .loop .s .punycoded) (drop (c .before .before .before .before .loop .s .at) (c .before .before .before .before .before .before .before .before .args .text .now))) (c .before .before .before .before .before .before .before .before .args .text .now) (c .before .before .before .before .loop .s .at + 1) (c .before .before .before .before .loop .s .punycoded) (c .from .given .0 .0) (c .from .given .0 .1 .0) (c .from .given .0 .1 .1 .0)
-taken c = taken-part (c .before .before .before .before .before .before .before .before .args .text .now) (c .before .before .before .before .loop .s .at + 1) (c .before .before .before .before .loop .s .punycoded) (c .from .given .1) (c .before .before .next-piece .ensures)
+of-length-requires : tie.Need-of-length-requires
+of-length-requires c κs = search needs
 
-first-requires : tie.Need-first-requires Inv-loop μ-loop
-first-requires c κs = search needs
-
-loop-holds : tie.Need-loop-holds Inv-loop μ-loop
-loop-holds c = writing-first (c .before .before .before .args .text .now) (lent (c .before .before .before .args .starts .now) (c .before .before .before .args .lengths .now) (c .before .before .before .args .known)) (c .before .before .before .args .p) (c .before .before .before .pre .0) (c .first .ensures)
-
-same-length : tie.Need-same-length Inv-loop μ-loop
-same-length c = c .before .loop .inv .len
-
-returns : tie.Need-returns Inv-loop μ-loop
-returns c = writing-past (c .before .before .before .before .before .args .text .now) (lent (c .before .before .before .before .before .args .starts .now) (c .before .before .before .before .before .args .lengths .now) (c .before .before .before .before .before .args .known)) (c .before .before .before .before .before .args .p) (c .before .before .before .before .before .args .room) (c .before .before .before .before .before .args .out .now) (c .before .before .before .before .before .args .at) (c .before .loop .out) (c .before .loop .s) (c .before .loop .r) (c .before .loop .inv) (c .if1 .taken)
-
-next-piece-requires : tie.Need-next-piece-requires Inv-loop μ-loop
-next-piece-requires c κs = (c .before .loop .inv .inside, c .before .before .before .before .before .pre .1 .1 .1)
-
-enum-known-from : tie.Need-enum-known-from Inv-loop μ-loop
+enum-known-from : tie.Need-enum-known-from
 enum-known-from c = search needs
 
-put-part-requires : tie.Need-put-part-requires Inv-loop μ-loop
-put-part-requires c κs = let t = taken (c .before .before) in (c .before .before .before .before .before .before .loop .inv .next, (t .order, t .inside))
+put-part-requires : tie.Need-put-part-requires
+put-part-requires c κs = let t = taken (c .before .before) in (c .before .before .before .before .before .before .before .before .before .before .pre .0, (t .order, t .inside))
 
-loop-less : tie.Need-loop-less Inv-loop μ-loop
-loop-less c =
-    let t = taken (c .before .before .before .before .before) in
-    omega (arith, t .onward, t .within)
+same-length : tie.Need-same-length
+same-length c = search needs
 
-loop-again : tie.Need-loop-again Inv-loop μ-loop
-loop-again c = writing-next (c .before .before .before .before .before .before .before .before .before .before .before .before .before .args .text .now) (lent (c .before .before .before .before .before .before .before .before .before .before .before .before .before .args .starts .now) (c .before .before .before .before .before .before .before .before .before .before .before .before .before .args .lengths .now) (c .before .before .before .before .before .before .before .before .before .before .before .before .before .args .known)) (c .before .before .before .before .before .before .before .before .before .before .before .before .before .args .p) (c .before .before .before .before .before .before .before .before .before .before .before .before .before .args .room) (c .before .before .before .before .before .before .before .before .before .before .before .before .before .args .out .now) (c .before .before .before .before .before .before .before .before .before .before .before .before .before .args .at) (c .before .before .before .before .before .before .before .before .before .loop .out) (c .before .before .before .before .before .before .before .before .before .loop .s) (c .before .before .before .before .before .before .before .before .before .loop .r) (c .before .before .before .before .before .before .before .before .before .loop .inv) (taken (c .before .before .before .before .before)) (c .before .before .put-part .ensures)
+returns : tie.Need-returns
+returns c = plain-put (c .before .before .before .before .before .before .before .before .before .before .before .before .before .args .text .now) (lent (c .before .before .before .before .before .before .before .before .before .before .before .before .before .args .starts .now) (c .before .before .before .before .before .before .before .before .before .before .before .before .before .args .lengths .now) (c .before .before .before .before .before .before .before .before .before .before .before .before .before .args .known)) (c .before .before .before .before .before .before .before .before .before .before .before .before .before .args .p) (c .before .before .before .before .before .before .before .before .before .before .before .before .before .pre .0) (c .before .before .before .before .before .before .before .before .before .before .if1 .taken) (c .before .before .before .before .before .before .before .before .if2 .taken) (taken (c .before .before .before .before .before)) (c .before .before .put-part .ensures)
 
-enum-told : tie.Need-enum-told Inv-loop μ-loop
+enum-told : tie.Need-enum-told
 enum-told c = search needs
 
-same-length-2 : tie.Need-same-length-2 Inv-loop μ-loop
-same-length-2 c = c .before .before .before .before .loop .inv .len
+returns-2 : tie.Need-returns-2
+returns-2 c = plain-none (c .before .before .before .before .before .before .before .before .args .text .now) (lent (c .before .before .before .before .before .before .before .before .args .starts .now) (c .before .before .before .before .before .before .before .before .args .lengths .now) (c .before .before .before .before .before .before .before .before .args .known)) (c .before .before .before .before .before .before .before .before .args .p) (c .before .before .before .before .before .before .before .before .pre .0) (c .before .before .before .before .before .if1 .taken) (c .before .before .before .if2 .taken) (taken-end (c .before .before .before .before .before .before .before .before .args .text .now) (c .before .before .before .before .before .before .before .before .args .p + 1) false (c .enum-told .given .1) (c .before .before .of-length .ensures))
 
-returns-2 : tie.Need-returns-2 Inv-loop μ-loop
-returns-2 c =
-    writing-end (c .before .before .before .before .before .before .before .before .args .text .now) (lent (c .before .before .before .before .before .before .before .before .args .starts .now) (c .before .before .before .before .before .before .before .before .args .lengths .now) (c .before .before .before .before .before .before .before .before .args .known)) (c .before .before .before .before .before .before .before .before .args .p) (c .before .before .before .before .before .before .before .before .args .room) (c .before .before .before .before .before .before .before .before .args .out .now) (c .before .before .before .before .before .before .before .before .args .at) (c .before .before .before .before .loop .out) (c .before .before .before .before .loop .s) (c .before .before .before .before .loop .r) (c .before .before .before .before .loop .inv)
-    (taken-end (c .before .before .before .before .before .before .before .before .args .text .now) (c .before .before .before .before .loop .s .at + 1) (c .before .before .before .before .loop .s .punycoded) (c .enum-told .given .1) (c .before .before .next-piece .ensures))
+put-pieces-requires : tie.Need-put-pieces-requires
+put-pieces-requires c κs = search needs
+
+same-length-2 : tie.Need-same-length-2
+same-length-2 c = search needs
+
+returns-3 : tie.Need-returns-3
+returns-3 c = search needs
 
 pub put-name-spec : {M : Type 1} → statement M
 put-name-spec =
     tie.close
     (tie.spec
-    Inv-loop
-    μ-loop
-    first-requires
-    loop-holds
-    same-length
-    returns
-    next-piece-requires
+    shared-slice-read-if2
+    of-length-requires
     enum-known-from
     put-part-requires
-    loop-less
-    loop-again
+    same-length
+    returns
     enum-told
+    returns-2
+    put-pieces-requires
     same-length-2
-    returns-2)
+    returns-3)
