@@ -1,12 +1,12 @@
 -- The steps that choose by a letter, and the answers that stand for them. Assumes nothing.
-use mathlib.Core.Path.{_≡_, refl, ap, _∙_}
+use mathlib.Core.Path.{_≡_, ap, _∙_}
 use mathlib.Core.List.{List, [], _∷_}
 use mathlib.Core.Option.{Option, some, none}
 use Prim.Native.Nat.{ℕ, _+_, _≤_, _<_}
 use Prim.Native.Char.{Char, code}
 use native.Mathlib.Omega.{arith}
 use lib.ListN.{length, getD, drop}
-use Rattle.definition.specs.Base.{given, Out, ok, refused, pick, and-then, or-refuse, ret}
+use Rattle.definition.specs.Base.{given, ok, refused, pick, and-then, or-refuse, ret}
 use Rattle.definition.specs.Text.{Text, Lex, next}
 use Rattle.definition.specs.Operators.{Operator, choose, choose-then, operator, operators}
 use Rattle.text.specs.Cursor.{Byted}
