@@ -1,23 +1,22 @@
 -- The steps that choose by a letter, and the answers that stand for them. Assumes nothing.
-use mathlib.Core.Path.{_≡_, refl, ap, _∙_}
+use mathlib.Core.Path.{_≡_, ap, _∙_}
 use mathlib.Core.List.{List, [], _∷_}
 use mathlib.Core.Option.{Option, some, none}
-use Prim.Native.Nat.{ℕ, _+_, _≤_}
+use Prim.Native.Nat.{ℕ, _+_, _≤_, _<_}
 use Prim.Native.Char.{Char, code}
 use native.Mathlib.Omega.{arith}
-use lib.ListN.{length, drop}
-use Rattle.definition.specs.Base.{given, Out, ok, refused, pick, and-then, or-refuse, ret}
+use lib.ListN.{length, getD, drop}
+use Rattle.definition.specs.Base.{given, ok, refused, pick, and-then, or-refuse, ret}
 use Rattle.definition.specs.Text.{Text, Lex, next}
 use Rattle.definition.specs.Operators.{Operator, choose, choose-then, operator, operators}
-use Rattle.definition.specs.Enums.{number}
-use Rattle.definition.specs.declared.Refusal.{Refusal}
 use Rattle.text.specs.Cursor.{Byted}
 use Rattle.text.specs.declared.Byte.{Byte}
 use Rattle.text.specs.declared.Byte.the-variants as Byte
 use Rattle.text.specs.declared.Cursor.{Cursor}
 use Rattle.letters.specs.Answers.{Stands, Operated}
 use Rattle.operators.specs.Answers.{Begun}
-use Rattle.letters.proofs.Answered.{operated-is, byte-read, byte-refused}
+use Rattle.text.proofs.Steps.{next-read, next-none}
+use Rattle.letters.proofs.Answered.{operated-is, byte-read}
 use Rattle.letters.proofs.Places.{Absent, absent}
 use Rattle.letters.specs.declared.OperatorRead.{OperatorRead}
 use Rattle.letters.specs.declared.OperatorRead.the-variants as OperatorRead
@@ -46,9 +45,12 @@ pub record Behind (text : Text) (from b : ℕ) (c : Cursor) : Type 0 where
   pub inside : c .at ≤ length text
   pub onward : from ≤ c .at
 
+pub behind : (text : Text) (at : ℕ) → at < length text → Behind text at (getD text at 0) (record { at = at + 1 })
+behind text at h = record { is = next-read text at h; inside = omega arith; onward = omega arith }
+
 module _ (text : Text) (from : ℕ) {r : Byte} where
-  pub behind : {b : ℕ} {c : Cursor} → r ≡ Byte.Read b c → Byted (next (drop from text)) text from r → Behind text from b c
-  behind e h = let g = byte-read text from e h in record { is = g .is; inside = g .inside; onward = let l = g .onward in omega arith }
+  pub behind-read : {b : ℕ} {c : Cursor} → r ≡ Byte.Read b c → Byted (next (drop from text)) text from r → Behind text from b c
+  behind-read e h = let g = byte-read text from e h in record { is = g .is; inside = g .inside; onward = let l = g .onward in omega arith }
 
 module _ {A : Type 0} (table : List (Char × A)) {text : Text} {from b : ℕ} {c : Cursor} (h : Behind text from b c) where
   choose-is : {o : Option A} → pick b table ≡ o → choose table (drop from text) ≡ or-refuse 9 o (drop (c .at) text)
@@ -80,14 +82,14 @@ module _ (table : List (Char × Lex Operator)) {text : Text} {from b : ℕ} {c :
   no-choice-then m = ap (λ o. and-then o (λ m. m)) (choose-is table h (past b table m))
 
 -- where there was no letter
-module _ (text : Text) (from : ℕ) {r : Byte} {f : Refusal} (e : r ≡ Byte.Refused f) (h : Byted (next (drop from text)) text from r) where
-  pub choose-refused : {A : Type 0} (table : List (Char × A)) → choose table (drop from text) ≡ refused (number f)
+module _ (text : Text) (from : ℕ) (h : length text ≤ from) where
+  pub choose-ended : {A : Type 0} (table : List (Char × A)) → choose table (drop from text) ≡ refused 9
   unfolding choose
-  choose-refused table = ap (λ o. and-then o (λ x. or-refuse 9 (pick x table))) (byte-refused text from e h)
+  choose-ended table = ap (λ o. and-then o (λ x. or-refuse 9 (pick x table))) (next-none text from h)
 
-  pub choose-then-refused : (table : List (Char × Lex Operator)) → choose-then table (drop from text) ≡ refused (number f)
+  pub choose-then-ended : (table : List (Char × Lex Operator)) → choose-then table (drop from text) ≡ refused 9
   unfolding choose-then
-  choose-then-refused table = ap (λ o. and-then o (λ m. m)) (choose-refused table)
+  choose-then-ended table = ap (λ o. and-then o (λ m. m)) (choose-ended table)
 
 -- THE FIRST LETTER
 module _ (b : ℕ) (t : Text) where

@@ -1,4 +1,4 @@
--- Parts of the definition's steps that read operands, and what the codes of the functions mean. Assumes nothing.
+-- Parts of the definition's steps that read operands, and what the numbers of the code mean. Assumes nothing.
 use mathlib.Core.List.{[], _∷_}
 use mathlib.Core.Option.{Option, some, none}
 use Prim.Native.Nat.{ℕ, zero, suc}

@@ -49,140 +49,158 @@ fn any_byte(text: &[u8], c: Cursor) -> OperatorRead
 fn special_type(text: &[u8], c: Cursor) -> OperatorRead
     ensures { λ r. ⌜ Operated (Op.choose-then Op.special-types (drop (c .at) (now (text .entry)))) (now (text .entry)) (c .at) r ⌝ }
 {
-    match text::next(text, c) {
-        Byte::Read(b, next) => match b {
-            b'E' => OperatorRead::Read(Operator::FunctionType, next),
-            b'B' => OperatorRead::Read(Operator::FunctionType, next),
-            b'C' => OperatorRead::Read(Operator::FunctionType, next),
-            b'A' => OperatorRead::Read(Operator::FunctionType, next),
-            b'K' => OperatorRead::Read(Operator::FunctionType, next),
-            b'f' => OperatorRead::Read(Operator::FunctionType, next),
-            b'L' => OperatorRead::Read(Operator::FunctionType, next),
-            b'U' => OperatorRead::Read(Operator::FunctionType, next),
-            b'l' => OperatorRead::Read(
-                Operator::Leaf(Leaf::StandardNominal(NominalKind::Protocol, 3)),
-                next,
-            ),
-            b'M' => any_byte(text, next),
-            b'p' => OperatorRead::Read(Operator::Metatype, next),
-            _ => OperatorRead::Refused(Refusal::Spelling),
-        },
-        Byte::Refused(f) => OperatorRead::Refused(f),
+    let at = c.at;
+    if at < text.len() {
+        let next = Cursor { at: at + 1 };
+        let q = match text[at] {
+            b'E' => Operator::FunctionType,
+            b'B' => Operator::FunctionType,
+            b'C' => Operator::FunctionType,
+            b'A' => Operator::FunctionType,
+            b'K' => Operator::FunctionType,
+            b'f' => Operator::FunctionType,
+            b'L' => Operator::FunctionType,
+            b'U' => Operator::FunctionType,
+            b'l' => Operator::Leaf(Leaf::StandardNominal(NominalKind::Protocol, 3)),
+            b'M' => return any_byte(text, next),
+            b'p' => Operator::Metatype,
+            _ => return OperatorRead::Refused(Refusal::Spelling),
+        };
+        return OperatorRead::Read(q, next);
     }
+    OperatorRead::Refused(Refusal::Spelling)
 }
 
 // `Y`
 fn async_type(text: &[u8], c: Cursor) -> OperatorRead
     ensures { λ r. ⌜ Operated (Op.choose Op.async-types (drop (c .at) (now (text .entry)))) (now (text .entry)) (c .at) r ⌝ }
 {
-    match text::next(text, c) {
-        Byte::Read(b, next) => match b {
-            b'a' => OperatorRead::Read(Operator::Leaf(Leaf::Async), next),
-            _ => OperatorRead::Refused(Refusal::Spelling),
-        },
-        Byte::Refused(f) => OperatorRead::Refused(f),
+    let at = c.at;
+    if at < text.len() {
+        let next = Cursor { at: at + 1 };
+        let q = match text[at] {
+            b'a' => Operator::Leaf(Leaf::Async),
+            _ => return OperatorRead::Refused(Refusal::Spelling),
+        };
+        return OperatorRead::Read(q, next);
     }
+    OperatorRead::Refused(Refusal::Spelling)
 }
 
 // `f`
 fn function_entity(text: &[u8], c: Cursor) -> OperatorRead
     ensures { λ r. ⌜ Operated (Op.choose Op.function-entities (drop (c .at) (now (text .entry)))) (now (text .entry)) (c .at) r ⌝ }
 {
-    match text::next(text, c) {
-        Byte::Read(b, next) => match b {
-            b'C' => OperatorRead::Read(Operator::Initializer(true), next),
-            b'c' => OperatorRead::Read(Operator::Initializer(false), next),
-            b'D' => OperatorRead::Read(Operator::Deinitializer(true), next),
-            b'd' => OperatorRead::Read(Operator::Deinitializer(false), next),
-            b'i' => OperatorRead::Read(Operator::VariableInitializer, next),
-            b'e' => OperatorRead::Read(Operator::Record(About::Context, 62), next),
-            b'E' => OperatorRead::Read(Operator::Record(About::Context, 63), next),
-            _ => OperatorRead::Refused(Refusal::Spelling),
-        },
-        Byte::Refused(f) => OperatorRead::Refused(f),
+    let at = c.at;
+    if at < text.len() {
+        let next = Cursor { at: at + 1 };
+        let q = match text[at] {
+            b'C' => Operator::Initializer(true),
+            b'c' => Operator::Initializer(false),
+            b'D' => Operator::Deinitializer(true),
+            b'd' => Operator::Deinitializer(false),
+            b'i' => Operator::VariableInitializer,
+            b'e' => Operator::Record(About::Context, 62),
+            b'E' => Operator::Record(About::Context, 63),
+            _ => return OperatorRead::Refused(Refusal::Spelling),
+        };
+        return OperatorRead::Read(q, next);
     }
+    OperatorRead::Refused(Refusal::Spelling)
 }
 
 // `MX`
 fn context_descriptor(text: &[u8], c: Cursor) -> OperatorRead
     ensures { λ r. ⌜ Operated (Op.choose Op.context-descriptors (drop (c .at) (now (text .entry)))) (now (text .entry)) (c .at) r ⌝ }
 {
-    match text::next(text, c) {
-        Byte::Read(b, next) => match b {
-            b'M' => OperatorRead::Read(Operator::Record(About::Context, 64), next),
-            b'E' => OperatorRead::Read(Operator::Record(About::Context, 65), next),
-            b'X' => OperatorRead::Read(Operator::Record(About::Context, 66), next),
-            _ => OperatorRead::Refused(Refusal::Spelling),
-        },
-        Byte::Refused(f) => OperatorRead::Refused(f),
+    let at = c.at;
+    if at < text.len() {
+        let next = Cursor { at: at + 1 };
+        let q = match text[at] {
+            b'M' => Operator::Record(About::Context, 64),
+            b'E' => Operator::Record(About::Context, 65),
+            b'X' => Operator::Record(About::Context, 66),
+            _ => return OperatorRead::Refused(Refusal::Spelling),
+        };
+        return OperatorRead::Read(q, next);
     }
+    OperatorRead::Refused(Refusal::Spelling)
 }
 
 // `M`
 fn metatype_record(text: &[u8], c: Cursor) -> OperatorRead
     ensures { λ r. ⌜ Operated (Op.choose-then Op.metatype-records (drop (c .at) (now (text .entry)))) (now (text .entry)) (c .at) r ⌝ }
 {
-    match text::next(text, c) {
-        Byte::Read(b, next) => match b {
-            b'a' => OperatorRead::Read(Operator::Record(About::Type, 67), next),
-            b'f' => OperatorRead::Read(Operator::Record(About::Type, 68), next),
-            b'm' => OperatorRead::Read(Operator::Record(About::Type, 69), next),
-            b'n' => OperatorRead::Read(Operator::Record(About::Type, 70), next),
-            b'F' => OperatorRead::Read(Operator::Record(About::Type, 71), next),
-            b'B' => OperatorRead::Read(Operator::Record(About::Type, 72), next),
-            b'S' => OperatorRead::Read(Operator::Record(About::Type, 73), next),
-            b'A' => OperatorRead::Read(Operator::Record(About::Type, 74), next),
-            b'p' => OperatorRead::Read(Operator::Record(About::Protocol, 75), next),
-            b'c' => OperatorRead::Read(Operator::Record(About::Conformance, 76), next),
-            b'V' => OperatorRead::Read(Operator::Record(About::Entity, 77), next),
-            b'K' => OperatorRead::Read(Operator::Record(About::Anything, 78), next),
-            b'L' => OperatorRead::Read(Operator::Record(About::Type, 79), next),
-            b'i' => OperatorRead::Read(Operator::Record(About::Type, 80), next),
-            b'I' => OperatorRead::Read(Operator::Record(About::Type, 81), next),
-            b'l' => OperatorRead::Read(Operator::Record(About::Type, 82), next),
-            b'r' => OperatorRead::Read(Operator::Record(About::Type, 83), next),
-            b'P' => OperatorRead::Read(Operator::Record(About::Type, 84), next),
-            b'd' => OperatorRead::Read(Operator::Record(About::Type, 85), next),
-            b'R' => OperatorRead::Read(Operator::Record(About::Type, 86), next),
-            b'X' => context_descriptor(text, next),
-            _ => OperatorRead::Refused(Refusal::Spelling),
-        },
-        Byte::Refused(f) => OperatorRead::Refused(f),
+    let at = c.at;
+    if at < text.len() {
+        let next = Cursor { at: at + 1 };
+        let q = match text[at] {
+            b'a' => Operator::Record(About::Type, 67),
+            b'f' => Operator::Record(About::Type, 68),
+            b'm' => Operator::Record(About::Type, 69),
+            b'n' => Operator::Record(About::Type, 70),
+            b'F' => Operator::Record(About::Type, 71),
+            b'B' => Operator::Record(About::Type, 72),
+            b'S' => Operator::Record(About::Type, 73),
+            b'A' => Operator::Record(About::Type, 74),
+            b'p' => Operator::Record(About::Protocol, 75),
+            b'c' => Operator::Record(About::Conformance, 76),
+            b'V' => Operator::Record(About::Entity, 77),
+            b'K' => Operator::Record(About::Anything, 78),
+            b'L' => Operator::Record(About::Type, 79),
+            b'i' => Operator::Record(About::Type, 80),
+            b'I' => Operator::Record(About::Type, 81),
+            b'l' => Operator::Record(About::Type, 82),
+            b'r' => Operator::Record(About::Type, 83),
+            b'P' => Operator::Record(About::Type, 84),
+            b'd' => Operator::Record(About::Type, 85),
+            b'R' => Operator::Record(About::Type, 86),
+            b'X' => return context_descriptor(text, next),
+            _ => return OperatorRead::Refused(Refusal::Spelling),
+        };
+        return OperatorRead::Read(q, next);
     }
+    OperatorRead::Refused(Refusal::Spelling)
 }
 
 // `Wv`
 fn field_offset(text: &[u8], c: Cursor) -> OperatorRead
     ensures { λ r. ⌜ Operated (Op.choose Op.field-offsets (drop (c .at) (now (text .entry)))) (now (text .entry)) (c .at) r ⌝ }
 {
-    match text::next(text, c) {
-        Byte::Read(b, next) => match b {
-            b'd' => OperatorRead::Read(Operator::Record(About::Entity, 88), next),
-            b'i' => OperatorRead::Read(Operator::Record(About::Entity, 89), next),
-            _ => OperatorRead::Refused(Refusal::Spelling),
-        },
-        Byte::Refused(f) => OperatorRead::Refused(f),
+    let at = c.at;
+    if at < text.len() {
+        let next = Cursor { at: at + 1 };
+        let q = match text[at] {
+            b'd' => Operator::Record(About::Entity, 88),
+            b'i' => Operator::Record(About::Entity, 89),
+            _ => return OperatorRead::Refused(Refusal::Spelling),
+        };
+        return OperatorRead::Read(q, next);
     }
+    OperatorRead::Refused(Refusal::Spelling)
 }
 
 // `W`
 fn witness(text: &[u8], c: Cursor) -> OperatorRead
     ensures { λ r. ⌜ Operated (Op.choose-then Op.witnesses (drop (c .at) (now (text .entry)))) (now (text .entry)) (c .at) r ⌝ }
 {
-    match text::next(text, c) {
-        Byte::Read(b, next) => match b {
-            b'V' => OperatorRead::Read(Operator::Record(About::Type, 90), next),
-            b'v' => field_offset(text, next),
-            b'l' => OperatorRead::Read(Operator::LazyWitness(91), next),
-            b'L' => OperatorRead::Read(Operator::LazyWitness(92), next),
-            b'P' => OperatorRead::Read(Operator::Record(About::Conformance, 93), next),
-            b'p' => OperatorRead::Read(Operator::Record(About::Conformance, 94), next),
-            b'a' => OperatorRead::Read(Operator::Record(About::Conformance, 95), next),
-            b'S' => OperatorRead::Read(Operator::Record(About::Conformance, 96), next),
-            _ => OperatorRead::Refused(Refusal::Spelling),
-        },
-        Byte::Refused(f) => OperatorRead::Refused(f),
+    let at = c.at;
+    if at < text.len() {
+        let next = Cursor { at: at + 1 };
+        let q = match text[at] {
+            b'V' => Operator::Record(About::Type, 90),
+            b'v' => return field_offset(text, next),
+            b'l' => Operator::LazyWitness(91),
+            b'L' => Operator::LazyWitness(92),
+            b'P' => Operator::Record(About::Conformance, 93),
+            b'p' => Operator::Record(About::Conformance, 94),
+            b'a' => Operator::Record(About::Conformance, 95),
+            b'S' => Operator::Record(About::Conformance, 96),
+            _ => return OperatorRead::Refused(Refusal::Spelling),
+        };
+        return OperatorRead::Read(q, next);
     }
+    OperatorRead::Refused(Refusal::Spelling)
 }
 
 // `TY`
@@ -200,28 +218,31 @@ fn suspend_resume(text: &[u8], c: Cursor) -> OperatorRead
 fn thunk(text: &[u8], c: Cursor) -> OperatorRead
     ensures { λ r. ⌜ Operated (Op.choose-then Op.thunks (drop (c .at) (now (text .entry)))) (now (text .entry)) (c .at) r ⌝ }
 {
-    match text::next(text, c) {
-        Byte::Read(b, next) => match b {
-            b'W' => OperatorRead::Read(Operator::ProtocolWitness, next),
-            b'L' => OperatorRead::Read(Operator::Record(About::Protocol, 121), next),
-            b'S' => OperatorRead::Read(Operator::Record(About::Protocol, 122), next),
-            b'l' => OperatorRead::Read(Operator::AssociatedType, next),
-            b'n' => OperatorRead::Read(Operator::AssociatedConformance, next),
-            b'Y' => suspend_resume(text, next),
-            b'q' => OperatorRead::Read(Operator::Record(About::Entity, 123), next),
-            b'u' => OperatorRead::Read(Operator::Record(About::Entity, 124), next),
-            b'j' => OperatorRead::Read(Operator::Record(About::Entity, 125), next),
-            b'V' => OperatorRead::Read(Operator::Record(About::Entity, 126), next),
-            b'o' => OperatorRead::Read(Operator::Record(About::Entity, 127), next),
-            b'O' => OperatorRead::Read(Operator::Record(About::Entity, 128), next),
-            b'D' => OperatorRead::Read(Operator::Record(About::Entity, 129), next),
-            b'I' => OperatorRead::Read(Operator::Record(About::Entity, 130), next),
-            b'X' => OperatorRead::Read(Operator::Record(About::Entity, 131), next),
-            b'm' => OperatorRead::Read(Operator::Record(About::Entity, 132), next),
-            _ => OperatorRead::Refused(Refusal::Spelling),
-        },
-        Byte::Refused(f) => OperatorRead::Refused(f),
+    let at = c.at;
+    if at < text.len() {
+        let next = Cursor { at: at + 1 };
+        let q = match text[at] {
+            b'W' => Operator::ProtocolWitness,
+            b'L' => Operator::Record(About::Protocol, 121),
+            b'S' => Operator::Record(About::Protocol, 122),
+            b'l' => Operator::AssociatedType,
+            b'n' => Operator::AssociatedConformance,
+            b'Y' => return suspend_resume(text, next),
+            b'q' => Operator::Record(About::Entity, 123),
+            b'u' => Operator::Record(About::Entity, 124),
+            b'j' => Operator::Record(About::Entity, 125),
+            b'V' => Operator::Record(About::Entity, 126),
+            b'o' => Operator::Record(About::Entity, 127),
+            b'O' => Operator::Record(About::Entity, 128),
+            b'D' => Operator::Record(About::Entity, 129),
+            b'I' => Operator::Record(About::Entity, 130),
+            b'X' => Operator::Record(About::Entity, 131),
+            b'm' => Operator::Record(About::Entity, 132),
+            _ => return OperatorRead::Refused(Refusal::Spelling),
+        };
+        return OperatorRead::Read(q, next);
     }
+    OperatorRead::Refused(Refusal::Spelling)
 }
 
 // Generic parameters
@@ -528,45 +549,43 @@ pub fn operator(text: &[u8], c: Cursor) -> OperatorRead
     let at = c.at;
     let b = text[at];
     let next = Cursor { at: at + 1 };
-    match b {
-        b'A' => OperatorRead::Substitutions(next),
-        b'C' => OperatorRead::Read(Operator::Nominal(NominalKind::Class), next),
-        b'V' => OperatorRead::Read(Operator::Nominal(NominalKind::Struct), next),
-        b'O' => OperatorRead::Read(Operator::Nominal(NominalKind::Enum), next),
-        b'P' => OperatorRead::Read(Operator::Nominal(NominalKind::Protocol), next),
-        b'a' => OperatorRead::Read(Operator::Nominal(NominalKind::TypeAlias), next),
-        b'S' => standard(text, next),
-        b's' => OperatorRead::Read(Operator::Leaf(Leaf::Module(0)), next),
-        b'y' => OperatorRead::Read(Operator::Leaf(Leaf::EmptyList), next),
-        b'_' => OperatorRead::Read(Operator::Leaf(Leaf::FirstElementMarker), next),
-        b'd' => OperatorRead::Read(Operator::Leaf(Leaf::VariadicMarker), next),
-        b'K' => OperatorRead::Read(Operator::Leaf(Leaf::Throws), next),
-        b't' => OperatorRead::Read(Operator::Tuple, next),
-        b'c' => OperatorRead::Read(Operator::FunctionType, next),
-        b'X' => special_type(text, next),
-        b'Y' => async_type(text, next),
-        b'x' => OperatorRead::Read(
-            Operator::Leaf(Leaf::GenericParam(Param { depth: 0, index: 0 })),
-            next,
-        ),
-        b'q' => generic_param(text, next),
-        b'Q' => archetype(text, next),
-        b'z' => OperatorRead::Read(Operator::InOut, next),
-        b'm' => OperatorRead::Read(Operator::Metatype, next),
-        b'p' => OperatorRead::Read(Operator::ProtocolList, next),
-        b'G' => OperatorRead::Read(Operator::BoundGeneric, next),
-        b'R' => requirement(text, next),
-        b'l' => OperatorRead::Read(Operator::GenericSignature(1), next),
-        b'r' => generic_signature(text, next),
-        b'F' => OperatorRead::Read(Operator::PlainFunction, next),
-        b'v' => variable(text, next),
-        b'f' => function_entity(text, next),
-        b'Z' => OperatorRead::Read(Operator::Static, next),
-        b'M' => metatype_record(text, next),
-        b'N' => OperatorRead::Read(Operator::Record(About::Type, 87), next),
-        b'W' => witness(text, next),
-        b'w' => value_witness(text, next),
-        b'T' => thunk(text, next),
-        _ => OperatorRead::Refused(Refusal::Spelling),
-    }
+    let q = match b {
+        b'A' => return OperatorRead::Substitutions(next),
+        b'C' => Operator::Nominal(NominalKind::Class),
+        b'V' => Operator::Nominal(NominalKind::Struct),
+        b'O' => Operator::Nominal(NominalKind::Enum),
+        b'P' => Operator::Nominal(NominalKind::Protocol),
+        b'a' => Operator::Nominal(NominalKind::TypeAlias),
+        b'S' => return standard(text, next),
+        b's' => Operator::Leaf(Leaf::Module(0)),
+        b'y' => Operator::Leaf(Leaf::EmptyList),
+        b'_' => Operator::Leaf(Leaf::FirstElementMarker),
+        b'd' => Operator::Leaf(Leaf::VariadicMarker),
+        b'K' => Operator::Leaf(Leaf::Throws),
+        b't' => Operator::Tuple,
+        b'c' => Operator::FunctionType,
+        b'X' => return special_type(text, next),
+        b'Y' => return async_type(text, next),
+        b'x' => Operator::Leaf(Leaf::GenericParam(Param { depth: 0, index: 0 })),
+        b'q' => return generic_param(text, next),
+        b'Q' => return archetype(text, next),
+        b'z' => Operator::InOut,
+        b'm' => Operator::Metatype,
+        b'p' => Operator::ProtocolList,
+        b'G' => Operator::BoundGeneric,
+        b'R' => return requirement(text, next),
+        b'l' => Operator::GenericSignature(1),
+        b'r' => return generic_signature(text, next),
+        b'F' => Operator::PlainFunction,
+        b'v' => return variable(text, next),
+        b'f' => return function_entity(text, next),
+        b'Z' => Operator::Static,
+        b'M' => return metatype_record(text, next),
+        b'N' => Operator::Record(About::Type, 87),
+        b'W' => return witness(text, next),
+        b'w' => return value_witness(text, next),
+        b'T' => return thunk(text, next),
+        _ => return OperatorRead::Refused(Refusal::Spelling),
+    };
+    OperatorRead::Read(q, next)
 }

@@ -1,4 +1,4 @@
--- The tables of the letters behind `S` are the definition's: computed tests over the whole table. Assumes nothing.
+-- The table of the letters behind `S` is the definition's: a computed test over the whole table. Assumes nothing.
 use mathlib.Core.Path.{_≡_, refl, ap, _∙_}
 use mathlib.Core.List.{List, [], _∷_}
 use mathlib.Core.Option.{some}
@@ -8,19 +8,11 @@ use native.Mathlib.Omega.{arith}
 use lib.ListN.{getD, getElem?}
 use Rattle.definition.specs.Operators.{opened as opened₀}
 use Rattle.definition.specs.Node.{NominalKind}
-use Rattle.definition.specs.Operators.{standard-modules, standard-types}
+use Rattle.definition.specs.Operators.{standard-types}
 use Rattle.fixed_names.specs.Fixed.{fixed-names, fixed}
 use Rattle.letters.specs.Letters.{entries}
 use Rattle.standard_types.specs.Standard.{standard-kind}
 use Rattle.letters.proofs.Listed.{listed, listed-entry}
-
--- `S`
-modules-right : entries standard-modules ≡ listed fixed 1 2
-unfolding opened₀ entries listed fixed fixed-names
-modules-right = refl
-
-pub module-at : (i : ℕ) → i < 2 → getElem? (entries standard-modules) i ≡ some (fixed (1 + i))
-module-at i h = ap (λ l. getElem? l i) modules-right ∙ listed-entry fixed 1 2 i h
 
 unfoldable pub standard-kinds : List ℕ
 standard-kinds =

@@ -18,9 +18,6 @@ use text::Byte;
 use text::Cursor;
 use text::Number;
 
-// The letters of the modules; the name of the first is 1.
-const MODULE_LETTERS: [u8; 2] = *b"oC";
-
 // The letters of the standard types, and their kinds: 0 is a struct, 1 an enum, 2 a protocol. The name of the first is 4.
 const STANDARD_LETTERS: [u8; 48] = *b"aAbDdfhIiJNnOPpRrSsuVvWwqBEeFGHjKkLlMmQTtUXxYyZz";
 
@@ -105,9 +102,11 @@ fn standard_letter(c: Cursor, repeat: usize, b: u8) -> OperatorRead
     if b == b'g' {
         return OperatorRead::Read(Operator::Optional(repeat), c);
     }
-    let i = place_of(&MODULE_LETTERS, b);
-    if i < 2 {
-        return OperatorRead::Read(Operator::Standard(repeat, Leaf::Module(1 + i)), c);
+    if b == b'o' {
+        return OperatorRead::Read(Operator::Standard(repeat, Leaf::Module(1)), c);
+    }
+    if b == b'C' {
+        return OperatorRead::Read(Operator::Standard(repeat, Leaf::Module(2)), c);
     }
     standard_type(c, repeat, b)
 }

@@ -4,52 +4,38 @@ use Rattle.definition.specs.Operators.{opened as opened₀}
 use Rattle.definition.specs.Operators.{context-descriptors}
 use Rattle.definition.specs.Enums as Enums
 use Rattle.fixed_names.specs.Fixed.{fixed-names, fixed}
-use Rattle.operators.proofs.Choices.{Behind, behind, choose-refused, chosen, no-choice}
+use Rattle.operators.proofs.Choices.{behind, choose-ended, chosen, no-choice}
 use borrow.Author.Needs.{needs}
 use Rattle.operators.proofs.context_descriptor.Statement.{statement}
 use Rattle.operators.proofs.context_descriptor.Tie as tie
 
--- the letter
-read : (c : tie.After-b) → Behind (c .before .before .before .before .args .text .now) (c .before .before .before .before .args .c .at) (c .b .given .0 .0) (c .b .given .0 .1 .0)
-read c = behind (c .before .before .before .before .args .text .now) (c .before .before .before .before .args .c .at) (c .b .given .1) (c .before .before .next .ensures)
+add-t8 : tie.Need-add-t8
+add-t8 c = search needs
 
-next-requires : tie.Need-next-requires
-next-requires c κs = search needs
-
-enum-known-b : tie.Need-enum-known-b
-enum-known-b c = search needs
-
-enum-known-f : tie.Need-enum-known-f
-enum-known-f c = search needs
+shared-slice-read-match : tie.Need-shared-slice-read-match
+shared-slice-read-match c = search needs
 
 returns : tie.Need-returns
-unfolding opened₀ Enums.operator Enums.leaf Enums.about Enums.nominal-kind fixed fixed-names
-returns c = chosen context-descriptors (read (c .before .before)) (c .match2 .keys1) refl
+unfolding opened₀ Enums.number
+returns c = no-choice context-descriptors (behind (c .before .before .before .args .text .now) (c .before .before .before .args .c .at) (c .before .before .if1 .taken)) (c .match .rest)
 
 returns-2 : tie.Need-returns-2
 unfolding opened₀ Enums.operator Enums.leaf Enums.about Enums.nominal-kind fixed fixed-names
-returns-2 c = chosen context-descriptors (read (c .before .before)) (c .match2 .keys2) refl
+returns-2 c = chosen context-descriptors (behind (c .before .before .before .args .text .now) (c .before .before .before .args .c .at) (c .before .before .if1 .taken)) (c .match .keys1) refl
 
 returns-3 : tie.Need-returns-3
 unfolding opened₀ Enums.operator Enums.leaf Enums.about Enums.nominal-kind fixed fixed-names
-returns-3 c = chosen context-descriptors (read (c .before .before)) (c .match2 .keys3) refl
+returns-3 c = chosen context-descriptors (behind (c .before .before .before .args .text .now) (c .before .before .before .args .c .at) (c .before .before .if1 .taken)) (c .match .keys2) refl
 
 returns-4 : tie.Need-returns-4
-unfolding opened₀ Enums.number
-returns-4 c = no-choice context-descriptors (read (c .before .before)) (c .match2 .rest)
+unfolding opened₀ Enums.operator Enums.leaf Enums.about Enums.nominal-kind fixed fixed-names
+returns-4 c = chosen context-descriptors (behind (c .before .before .before .args .text .now) (c .before .before .before .args .c .at) (c .before .before .if1 .taken)) (c .match .keys3) refl
 
 returns-5 : tie.Need-returns-5
-returns-5 c = choose-refused (c .before .before .before .before .before .args .text .now) (c .before .before .before .before .before .args .c .at) (c .before .f .given .1) (c .before .before .before .next .ensures) context-descriptors
+unfolding Enums.number
+returns-5 c = choose-ended (c .before .args .text .now) (c .before .args .c .at) (c .if1 .left) context-descriptors
 
 pub context-descriptor-spec : {M : Type 1} → statement M
 context-descriptor-spec =
     tie.close
-    (tie.spec
-    next-requires
-    enum-known-b
-    enum-known-f
-    returns
-    returns-2
-    returns-3
-    returns-4
-    returns-5)
+    (tie.spec add-t8 shared-slice-read-match returns returns-2 returns-3 returns-4 returns-5)

@@ -1,6 +1,5 @@
 -- `operators::requirement` meets its contract. Assumes nothing.
 use mathlib.Core.Path.{refl}
-use mathlib.Core.Path.{_≡_}
 use native.Mathlib.Nat.{le-refl}
 use lib.ListN.{getD}
 use Rattle.definition.specs.Operators.{opened as opened₀}

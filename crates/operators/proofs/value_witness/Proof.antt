@@ -3,7 +3,7 @@ use mathlib.Core.Path.{sym, _∙_}
 use lib.ListN.{drop}
 use Rattle.definition.specs.Enums as Enums
 use Rattle.letters.proofs.Answered.{byte-refused}
-use Rattle.operators.proofs.Choices.{Behind, behind}
+use Rattle.operators.proofs.Choices.{Behind, behind-read}
 use Rattle.operators.proofs.OperandSteps.{numbered-name, no-name, first-refused, second-refused, witness-read, witness-none}
 use borrow.Author.Needs.{needs}
 use Rattle.operators.proofs.value_witness.Statement.{statement}
@@ -11,10 +11,10 @@ use Rattle.operators.proofs.value_witness.Tie as tie
 
 -- the letters
 first : (c : tie.After-a) → Behind (c .before .before .before .before .args .text .now) (c .before .before .before .before .args .c .at) (c .a .given .0 .0) (c .a .given .0 .1 .0)
-first c = behind (c .before .before .before .before .args .text .now) (c .before .before .before .before .args .c .at) (c .a .given .1) (c .before .before .next .ensures)
+first c = behind-read (c .before .before .before .before .args .text .now) (c .before .before .before .before .args .c .at) (c .a .given .1) (c .before .before .next .ensures)
 
 second : (c : tie.After-b) → Behind (c .before .before .before .before .before .before .before .before .args .text .now) (c .before .before .before .before .a .given .0 .1 .0 .at) (c .b .given .0 .0) (c .b .given .0 .1 .0)
-second c = behind (c .before .before .before .before .before .before .before .before .args .text .now) (c .before .before .before .before .a .given .0 .1 .0 .at) (c .b .given .1) (c .before .before .next2 .ensures)
+second c = behind-read (c .before .before .before .before .before .before .before .before .args .text .now) (c .before .before .before .before .a .given .0 .1 .0 .at) (c .b .given .1) (c .before .before .next2 .ensures)
 
 next-requires : tie.Need-next-requires
 next-requires c κs = search needs
