@@ -77,14 +77,14 @@ fn past_others(text: &[u8], from: usize) -> usize
     requires { ⌜ from ≤ length (now text) ⌝ }
     ensures { λ r. ⌜ (from ≤ r) × (r ≤ length (now (text .entry))) × Each no-dot (now (text .entry)) from r ⌝ }
 {
-    let mut at = from;
-    while 8 <= text.len() - at {
-        if !eight_others(text, at) {
-            return at;
+    let mut next = from;
+    while 8 <= text.len() - next {
+        if !eight_others(text, next) {
+            return next;
         }
-        at += 8;
+        next += 8;
     }
-    at
+    next
 }
 
 // The place of the first dot, or the end.

@@ -28,8 +28,8 @@ eight-others-requires c κs = let h = c .before .loop .inv .1 in omega arith
 returns : tie.Need-returns Inv-loop μ-loop
 returns c = c .before .before .before .loop .inv
 
-add-at : tie.Need-add-at Inv-loop μ-loop
-add-at c = omega arith
+add-next : tie.Need-add-next Inv-loop μ-loop
+add-next c = omega arith
 
 loop-less : tie.Need-loop-less Inv-loop μ-loop
 loop-less c = omega arith
@@ -52,7 +52,7 @@ past-others-spec =
     sub-loop
     eight-others-requires
     returns
-    add-at
+    add-next
     loop-less
     loop-again
     returns-2)
