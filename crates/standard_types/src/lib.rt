@@ -14,11 +14,12 @@ use definition::Operator;
 use definition::Refusal;
 use letters::OperatorRead;
 use letters::place_of;
+use letters::wide;
 use text::Byte;
 use text::Cursor;
 use text::Number;
 
-// The letters of the standard types, and their kinds: 0 is a struct, 1 an enum, 2 a protocol. The name of the first is 4.
+// The standard types: their letters, their kinds (0 is a struct, 1 an enum, 2 a protocol), and the numbers of their names.
 const STANDARD_LETTERS: [u8; 48] = *b"aAbDdfhIiJNnOPpRrSsuVvWwqBEeFGHjKkLlMmQTtUXxYyZz";
 
 const STANDARD_KINDS: [u8; 48] = [
@@ -72,6 +73,57 @@ const STANDARD_KINDS: [u8; 48] = [
     2,
 ];
 
+const STANDARD_NAMES: [u8; 48] = [
+    4,
+    5,
+    6,
+    7,
+    8,
+    9,
+    10,
+    11,
+    12,
+    13,
+    14,
+    15,
+    16,
+    17,
+    18,
+    19,
+    20,
+    21,
+    22,
+    23,
+    24,
+    25,
+    26,
+    27,
+    28,
+    29,
+    30,
+    31,
+    32,
+    33,
+    34,
+    35,
+    36,
+    37,
+    38,
+    39,
+    40,
+    41,
+    42,
+    43,
+    44,
+    45,
+    46,
+    47,
+    48,
+    49,
+    50,
+    51,
+];
+
 fn standard_kind(k: u8) -> NominalKind
     ensures { λ r. ⌜ Enums.nominal-kind r ≡ standard-kind k ⌝ }
 {
@@ -88,8 +140,9 @@ fn standard_type(c: Cursor, repeat: usize, b: u8) -> OperatorRead
     let i = place_of(&STANDARD_LETTERS, b);
     if i < 48 {
         let kind = standard_kind(STANDARD_KINDS[i]);
+        let name = wide(STANDARD_NAMES[i]);
         return OperatorRead::Read(
-            Operator::Standard(repeat, Leaf::StandardNominal(kind, 4 + i)),
+            Operator::Standard(repeat, Leaf::StandardNominal(kind, name)),
             c,
         );
     }

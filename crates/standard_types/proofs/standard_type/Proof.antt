@@ -1,7 +1,7 @@
 -- `standard_types::standard_type` meets its contract. Assumes nothing.
 use mathlib.Core.Path.{_≡_, sym, ap, _∙_}
-use Prim.Native.Nat.{_+_}
-use lib.ListN.{drop}
+use Prim.Native.Nat.{ℕ}
+use lib.ListN.{getD, drop}
 use Rattle.definition.specs.Base.{ok}
 use Rattle.definition.specs.Text.{Text}
 use Rattle.definition.specs.Node.{NominalKind}
@@ -13,7 +13,7 @@ use Rattle.definition.specs.Enums as Enums
 use Rattle.fixed_names.specs.Fixed.{fixed}
 use Rattle.letters.specs.Letters.{letters, place, entries}
 use Rattle.letters.proofs.Listed.{pick-at, pick-none}
-use Rattle.standard_types.proofs.StandardTables.{standard-kinds, standard-at}
+use Rattle.standard_types.proofs.StandardTables.{standard-kinds, standard-names, standard-at}
 use Rattle.letters.proofs.Answered.{or-some, or-none}
 use borrow.Author.Needs.{needs}
 use native.Mathlib.Omega.{arith}
@@ -37,16 +37,20 @@ array-read-standard-kind c = search needs
 standard-kind-requires : tie.Need-standard-kind-requires
 standard-kind-requires c κs = search needs
 
-add-t14 : tie.Need-add-t14
-add-t14 c = search needs
+array-read-wide : tie.Need-array-read-wide
+array-read-wide c = search needs
+
+wide-requires : tie.Need-wide-requires
+wide-requires c κs = search needs
 
 returns : tie.Need-returns
-unfolding standard-kinds Enums.operator Enums.leaf
+unfolding standard-kinds standard-names Enums.operator Enums.leaf
 returns c = λ t h. record {
   is =
-      or-some (λ (s : NominalKind × String) (u : Text). ok (standard (c .before .before .before .before .args .repeat) (standard-nominal (s .0) (s .1))) u) (drop (c .before .before .before .before .args .c .at) t)
-      (pick-at standard-types (c .before .before .before .before .args .b) (c .before .before .place-of .result) (placed (c .before .before)) ∙ standard-at (c .before .before .place-of .result) (c .before .if1 .taken))
-      ∙ ap (λ (k : NominalKind). ok (standard (c .before .before .before .before .args .repeat) (standard-nominal k (fixed (4 + c .before .before .place-of .result)))) (drop (c .before .before .before .before .args .c .at) t)) (sym (c .standard-kind .ensures));
+      or-some (λ (s : NominalKind × String) (u : Text). ok (standard (c .before .before .before .before .before .args .repeat) (standard-nominal (s .0) (s .1))) u) (drop (c .before .before .before .before .before .args .c .at) t)
+      (pick-at standard-types (c .before .before .before .before .before .args .b) (c .before .before .before .place-of .result) (placed (c .before .before .before)) ∙ standard-at (c .before .before .before .place-of .result) (c .before .before .if1 .taken))
+      ∙ ap (λ (k : NominalKind). ok (standard (c .before .before .before .before .before .args .repeat) (standard-nominal k (fixed (getD standard-names (c .before .before .before .place-of .result) 0)))) (drop (c .before .before .before .before .before .args .c .at) t)) (sym (c .before .standard-kind .ensures))
+      ∙ ap (λ (n : ℕ). ok (standard (c .before .before .before .before .before .args .repeat) (standard-nominal (Enums.nominal-kind (c .before .standard-kind .result)) (fixed n))) (drop (c .before .before .before .before .before .args .c .at) t)) (sym (c .wide .ensures));
   inside = h;
   onward = omega arith;
 }
@@ -63,6 +67,7 @@ standard-type-spec =
     place-of-requires
     array-read-standard-kind
     standard-kind-requires
-    add-t14
+    array-read-wide
+    wide-requires
     returns
     returns-2)
