@@ -1,6 +1,7 @@
 // The fixed names, every text that an operator brings by itself, and behind them the texts that the printer puts by itself: 171 of them, as words of
 // eight bytes. What stands at a number is found by a `match`: a constant array is copied at each use.
 ghost use mathlib.Core.Path.{_≡_};
+ghost use Prim.Native.Nat.{_≤_, _<_};
 ghost use lib.ListN.{getD};
 ghost use Rattle.fixed_names.specs.Words.{words, places, Named};
 
@@ -10,8 +11,11 @@ pub struct Part {
     pub len: usize,
 }
 
-// The words of all names, one name behind the other: the first byte is the least, and a name's last word is filled with zeros.
-pub fn word(i: usize) -> u64
+// A table is cut into functions of 64 arms: what the prover makes of a match grows with the square of its arms.
+
+// The words 0 to 63.
+fn word_0(i: usize) -> u64
+    requires { ⌜ i < 64 ⌝ }
     ensures { λ r. ⌜ r ≡ getD words i 0 ⌝ }
 {
     match i {
@@ -110,7 +114,16 @@ pub fn word(i: usize) -> u64
         61 => 101,
         // 31: "Decodable"
         62 => 7809911787807270212,
-        63 => 101,
+        _ => 101,
+    }
+}
+
+// The words 64 to 127.
+fn word_64(i: usize) -> u64
+    requires { ⌜ (64 ≤ i) × (i < 128) ⌝ }
+    ensures { λ r. ⌜ r ≡ getD words i 0 ⌝ }
+{
+    match i {
         // 32: "FloatingPoint"
         64 => 7453010381916564550,
         65 => 500068609872,
@@ -206,7 +219,16 @@ pub fn word(i: usize) -> u64
         // 63: "ivar destroyer for "
         125 => 8315162377530209897,
         126 => 7359007571278000756,
-        127 => 2126447,
+        _ => 2126447,
+    }
+}
+
+// The words 128 to 191.
+fn word_128(i: usize) -> u64
+    requires { ⌜ (128 ≤ i) × (i < 192) ⌝ }
+    ensures { λ r. ⌜ r ≡ getD words i 0 ⌝ }
+{
+    match i {
         // 64: "module descriptor "
         128 => 7214878119547924333,
         129 => 8031167633701434213,
@@ -286,7 +308,16 @@ pub fn word(i: usize) -> u64
         188 => 7161113873623966060,
         189 => 7019267257152857448,
         190 => 2338053640979573858,
-        191 => 8387229866955667828,
+        _ => 8387229866955667828,
+    }
+}
+
+// The words 192 to 255.
+fn word_192(i: usize) -> u64
+    requires { ⌜ (192 ≤ i) × (i < 256) ⌝ }
+    ensures { λ r. ⌜ r ≡ getD words i 0 ⌝ }
+{
+    match i {
         192 => 8027138988770944097,
         193 => 8306,
         // 80: "type metadata instantiation function for "
@@ -363,7 +394,16 @@ pub fn word(i: usize) -> u64
         252 => 8030604370334343532,
         253 => 7599578546308345716,
         254 => 7022273399206801012,
-        255 => 7521962881012034658,
+        _ => 7521962881012034658,
+    }
+}
+
+// The words 256 to 319.
+fn word_256(i: usize) -> u64
+    requires { ⌜ (256 ≤ i) × (i < 320) ⌝ }
+    ensures { λ r. ⌜ r ≡ getD words i 0 ⌝ }
+{
+    match i {
         256 => 7089063228440191077,
         257 => 8367813930434717036,
         258 => 543518841,
@@ -447,7 +487,16 @@ pub fn word(i: usize) -> u64
         317 => 6303176297652774266,
         318 => 34182095356589161,
         // 112: "initializeBufferWithTake"
-        319 => 7596553777019711081,
+        _ => 7596553777019711081,
+    }
+}
+
+// The words 320 to 383.
+fn word_320(i: usize) -> u64
+    requires { ⌜ (320 ≤ i) × (i < 384) ⌝ }
+    ensures { λ r. ⌜ r ≡ getD words i 0 ⌝ }
+{
+    match i {
         320 => 8243107283211543930,
         321 => 7308041835496368471,
         // 113: "initializeBufferWithTakeOfBuffer"
@@ -529,7 +578,16 @@ pub fn word(i: usize) -> u64
         381 => 139358856736,
         // 130: "dynamically replaceable variable for "
         382 => 7017568562880346468,
-        383 => 7813856894333316204,
+        _ => 7813856894333316204,
+    }
+}
+
+// The words 384 to 447.
+fn word_384(i: usize) -> u64
+    requires { ⌜ (384 ≤ i) × (i < 448) ⌝ }
+    ensures { λ r. ⌜ r ≡ getD words i 0 ⌝ }
+{
+    match i {
         384 => 2334391151658099553,
         385 => 7308324465835925878,
         386 => 139358856736,
@@ -629,7 +687,16 @@ pub fn word(i: usize) -> u64
         445 => 7232613250493604195,
         446 => 499985049957,
         // 166: "deinit"
-        447 => 127996172789092,
+        _ => 127996172789092,
+    }
+}
+
+// The words 448 to 457.
+fn word_448(i: usize) -> u64
+    requires { ⌜ (448 ≤ i) × (i < 458) ⌝ }
+    ensures { λ r. ⌜ r ≡ getD words i 0 ⌝ }
+{
+    match i {
         // 167: "_"
         448 => 95,
         // 168: ") suspend resume partial function for "
@@ -643,13 +710,44 @@ pub fn word(i: usize) -> u64
         455 => 2334102023150920045,
         456 => 2459097790629180787,
         // 170: "\""
-        457 => 34,
-        _ => 0,
+        _ => 34,
     }
 }
 
-// Where the name of that number stands, in one number: 64 times the place of its first word, and its length.
-fn place(n: usize) -> usize
+// The words of all names, one name behind the other: the first byte is the least, and a name's last word is filled with zeros.
+pub fn word(i: usize) -> u64
+    ensures { λ r. ⌜ r ≡ getD words i 0 ⌝ }
+{
+    if 458 <= i {
+        return 0;
+    }
+    if i < 256 {
+        if i < 128 {
+            if i < 64 {
+                return word_0(i);
+            }
+            return word_64(i);
+        }
+        if i < 192 {
+            return word_128(i);
+        }
+        return word_192(i);
+    }
+    if i < 384 {
+        if i < 320 {
+            return word_256(i);
+        }
+        return word_320(i);
+    }
+    if i < 448 {
+        return word_384(i);
+    }
+    word_448(i)
+}
+
+// The places of the names 0 to 63.
+fn place_0(n: usize) -> usize
+    requires { ⌜ n < 64 ⌝ }
     ensures { λ r. ⌜ r ≡ getD places n 0 ⌝ }
 {
     match n {
@@ -716,7 +814,16 @@ fn place(n: usize) -> usize
         60 => 7574,
         61 => 7750,
         62 => 7829,
-        63 => 8019,
+        _ => 8019,
+    }
+}
+
+// The places of the names 64 to 127.
+fn place_64(n: usize) -> usize
+    requires { ⌜ (64 ≤ n) × (n < 128) ⌝ }
+    ensures { λ r. ⌜ r ≡ getD places n 0 ⌝ }
+{
+    match n {
         64 => 8210,
         65 => 8405,
         66 => 8597,
@@ -780,7 +887,16 @@ fn place(n: usize) -> usize
         124 => 23322,
         125 => 23570,
         126 => 23761,
-        127 => 23942,
+        _ => 23942,
+    }
+}
+
+// The places of the names 128 to 170.
+fn place_128(n: usize) -> usize
+    requires { ⌜ (128 ≤ n) × (n < 171) ⌝ }
+    ensures { λ r. ⌜ r ≡ getD places n 0 ⌝ }
+{
+    match n {
         128 => 24009,
         129 => 24165,
         130 => 24485,
@@ -823,9 +939,24 @@ fn place(n: usize) -> usize
         167 => 28673,
         168 => 28774,
         169 => 29080,
-        170 => 29249,
-        _ => 0,
+        _ => 29249,
     }
+}
+
+// Where the name of that number stands, in one number: 64 times the place of its first word, and its length.
+fn place(n: usize) -> usize
+    ensures { λ r. ⌜ r ≡ getD places n 0 ⌝ }
+{
+    if 171 <= n {
+        return 0;
+    }
+    if n < 64 {
+        return place_0(n);
+    }
+    if n < 128 {
+        return place_64(n);
+    }
+    place_128(n)
 }
 
 // Where the name of that number stands; nothing past the last name.
