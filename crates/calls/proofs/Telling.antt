@@ -6,9 +6,9 @@ use Rattle.definition.specs.Calls as Calls
 use Rattle.definition.specs.Enums.{values}
 use Rattle.definition.specs.declared.Answer.{Answer}
 use Rattle.endings.specs.Answers.{Answers}
 use Rattle.calls.specs.Calls.{Scratch}
 use Rattle.values.specs.Six.{six}
-use Rattle.capi.specs.Told.{Told}
+use Rattle.values.specs.Told.{Told}
 
 -- a call's answer, told
 pub told : {a : Calls.Answer} {out out′ answer : List ℕ} {r : Answer} → Answers a out out′ r → answer ≡ six (values r) → Told a out out′ answer
