@@ -72,7 +72,8 @@ fn eight_others(text: &[u8], at: usize) -> bool
     first & last
 }
 
-// The place behind bytes that are no dots, eight at a time, from a place on.
+// The place behind bytes that are no dots, eight at a time, from a place on. Fewer than eight are left behind the loop: the last eight
+// of the text have them all, and some that were tested before.
 fn past_others(text: &[u8], from: usize) -> usize
     requires { ⌜ from ≤ length (now text) ⌝ }
     ensures { λ r. ⌜ (from ≤ r) × (r ≤ length (now (text .entry))) × Each no-dot (now (text .entry)) from r ⌝ }
@@ -83,6 +84,11 @@ fn past_others(text: &[u8], from: usize) -> usize
             return next;
         }
         next += 8;
+    }
+    if 8 <= text.len() {
+        if eight_others(text, text.len() - 8) {
+            return text.len();
+        }
     }
     next
 }

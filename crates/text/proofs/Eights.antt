@@ -25,6 +25,14 @@ module _ (p : ℕ → Bool) (text : Text) where
       go i l r true q = g .at i l (ltb-true i at q)
       go i l r false q = h .at i (ltb-false i at q) r
 
+  -- a part of what was tested
+  pub each-part : {from to a b : ℕ} → Each p text from to → from ≤ a → b ≤ to → Each p text a b
+  each-part g l r = record { at = λ i k m. g .at i (omega arith) (omega arith) }
+
+  -- one part behind another that it meets or overlaps
+  pub each-over : {from at a b to : ℕ} → Each p text from at → Each p text a b → a ≤ at → to ≤ b → Each p text from to
+  each-over g h l r = each-both g (each-part h l r)
+
   each-one : {at next : ℕ} → next ≡ at + 1 → p (getD text at 0) ≡ true → Each p text at next
   each-one {at} e b = record { at = λ i l r. let k : at ≡ i = omega arith in subst (λ (j : ℕ). p (getD text j 0) ≡ true) k b }
 

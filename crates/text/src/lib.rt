@@ -91,7 +91,8 @@ pub fn next_if(text: &[u8], c: Cursor, b: u8) -> Taken
 
 // Numbers
 
-// The digits from the cursor on, after digits of that value.
+// The digits from the cursor on, after digits of that value. Ten times a value above 1844674407370955161 is above 2^64 - 1; ten times any
+// other is not, and leaves room for the digit or does not.
 fn digits(text: &[u8], c: Cursor, first: usize) -> Number
     requires { ⌜ c .at ≤ length (now text) ⌝ }
     ensures { λ r. ⌜ Counted (Text.digits first (drop (c .at) (now (text .entry)))) (now (text .entry)) (c .at) r ⌝ }
@@ -104,10 +105,14 @@ fn digits(text: &[u8], c: Cursor, first: usize) -> Number
             return Number::Read(value, Cursor { at });
         }
         let d = (b - 48) as usize;
-        if (18446744073709551615 - d) / 10 < value {
+        if 1844674407370955161 < value {
             return Number::Refused(Refusal::Spelling);
         }
-        value = value * 10 + d;
+        let tens = value * 10;
+        if 18446744073709551615 - tens < d {
+            return Number::Refused(Refusal::Spelling);
+        }
+        value = tens + d;
         at += 1;
     }
     Number::Read(value, Cursor { at })

@@ -151,7 +151,8 @@ fn eight_ascii(text: &[u8], at: usize) -> bool
     first & last
 }
 
-// The place behind bytes below 80, eight at a time, from a place on.
+// The place behind bytes below 80, eight at a time, from a place on. Fewer than eight are left behind the loop: the last eight of the
+// text have them all, and some that were tested before.
 fn past_ascii(text: &[u8], from: usize) -> usize
     requires { ⌜ from ≤ length (now text) ⌝ }
     ensures { λ r. ⌜ (from ≤ r) × (r ≤ length (now (text .entry))) × Each below-80 (now (text .entry)) from r ⌝ }
@@ -162,6 +163,11 @@ fn past_ascii(text: &[u8], from: usize) -> usize
             return at;
         }
         at += 8;
+    }
+    if 8 <= text.len() {
+        if eight_ascii(text, text.len() - 8) {
+            return text.len();
+        }
     }
     at
 }
@@ -180,11 +186,36 @@ pub fn ill_formed(text: &[u8]) -> IllFormed
     IllFormed::Nowhere
 }
 
-// Whether text[from..to] is well-formed.
+// Whether text[from..to] is surely all below 80. Eight bytes are tested at a time, and they may reach behind `to`; near the end of the
+// text they are its last eight. So `false` says nothing.
+fn surely_ascii(text: &[u8], from: usize, to: usize) -> bool
+    requires { ⌜ (from ≤ to) × (to ≤ length (now text)) ⌝ }
+    ensures { λ r. ⌜ (r ≡ true → Each below-80 (now (text .entry)) from to) ⌝ }
+{
+    let mut at = from;
+    while at < to {
+        if text.len() - at < 8 {
+            if text.len() < 8 {
+                return false;
+            }
+            return eight_ascii(text, text.len() - 8);
+        }
+        if !eight_ascii(text, at) {
+            return false;
+        }
+        at += 8;
+    }
+    true
+}
+
+// Whether text[from..to] is well-formed: it is if all of it is below 80, which is tested first.
 pub fn well_formed(text: &[u8], from: usize, to: usize) -> bool
     requires { ⌜ (from ≤ to) × (to ≤ length (now text)) ⌝ }
     ensures { λ r. ⌜ r ≡ Text.well-formed (take (to - from) (drop from (now (text .entry)))) ⌝ }
 {
+    if surely_ascii(text, from, to) {
+        return true;
+    }
     match ill_formed(&text[from..to]) {
         IllFormed::At(_) => false,
         IllFormed::Nowhere => true,

@@ -1,11 +1,12 @@
 -- `utf8::past_ascii` meets its contract. Assumes nothing.
 use Prim.Native.Nat.{_≤_, _-_}
 use native.Mathlib.Omega.{arith}
+use native.Mathlib.Nat.{le-refl}
 use borrow.Author.Needs.{needs}
 use borrow.Author.Tests.{not-false}
 use lib.ListN.{length}
 use Rattle.text.specs.Each.{Each}
-use Rattle.text.proofs.Eights.{each-none, each-both}
+use Rattle.text.proofs.Eights.{each-none, each-both, each-over}
 use Rattle.utf8.specs.Utf8.{below-80}
 use Rattle.utf8.proofs.past_ascii.Statement.{statement}
 use Rattle.utf8.proofs.past_ascii.Tie as tie
@@ -39,8 +40,22 @@ loop-again c =
     let h = c .before .before .before .loop .inv in
     (omega (arith, h .0), omega arith, each-both below-80 _ (h .2) (c .before .eight-ascii .ensures (not-false _ (c .if1 .left))))
 
+sub-eight-ascii : tie.Need-sub-eight-ascii Inv-loop μ-loop
+sub-eight-ascii c = c .if2 .taken
+
+eight-ascii-requires-2 : tie.Need-eight-ascii-requires-2 Inv-loop μ-loop
+eight-ascii-requires-2 c κs = omega arith
+
 returns-2 : tie.Need-returns-2 Inv-loop μ-loop
-returns-2 c = c .before .loop .inv
+returns-2 c =
+    let h = c .before .before .before .before .loop .inv in
+    (c .before .before .before .before .before .before .pre, le-refl _, each-over below-80 _ (h .2) (c .before .eight-ascii2 .ensures (c .if3 .taken)) (omega arith) (omega arith))
+
+returns-3 : tie.Need-returns-3 Inv-loop μ-loop
+returns-3 c = c .before .before .before .before .loop .inv
+
+returns-4 : tie.Need-returns-4 Inv-loop μ-loop
+returns-4 c = c .before .before .loop .inv
 
 pub past-ascii-spec : {M : Type 1} → statement M
 past-ascii-spec =
@@ -55,4 +70,8 @@ past-ascii-spec =
     add-at
     loop-less
     loop-again
-    returns-2)
+    sub-eight-ascii
+    eight-ascii-requires-2
+    returns-2
+    returns-3
+    returns-4)
