@@ -299,12 +299,18 @@ module _ (nm : Names) (ws : List ℕ) (p : ℕ) where
       unfolding form-of
       form-other-accessor e f = plain 21 e (differ 21 18 tt) (sym (ap (λ (x : Bool). if x then 45 else 21) (ne-eqb (at ws (at ws p 4) 0) 20 (λ (z : at ws (at ws p 4) 0 ≡ 20). f (below-is ∙ z))))) (omega arith)
 
-    pub form-kind : Some (Prints nm ws p) → (k ≡ 12 → ⊥) → (k ≡ 15 → ⊥) → (k ≡ 18 → ⊥) → (k ≡ 21 → ⊥) → (k ≡ 23 → ⊥) → (k ≡ 26 → ⊥) → FormIs nm ws p k
+    -- a kind that has no form besides
+    other : k < 46 → (k ≡ 12 → ⊥) → (k ≡ 15 → ⊥) → (k ≡ 18 → ⊥) → (k ≡ 21 → ⊥) → (k ≡ 23 → ⊥) → (k ≡ 26 → ⊥) → FormIs nm ws p k
     unfolding form-of
-    form-kind s a b c d e f =
+    other l a b c d e f =
         plain k refl c
-        (sym (simp (ne-eqb k 12 a, ne-eqb k 15 b, ne-eqb k 18 c, ne-eqb k 21 d, ne-eqb k 23 e, ne-eqb k 26 f)))
-        (let h = kind-small (s .is .tree) in omega (arith, ek, s .is .lies .kind-is))
+        (sym (simp (ne-eqb k 12 a, ne-eqb k 15 b, ne-eqb k 18 c, ne-eqb k 21 d, ne-eqb k 23 e, ne-eqb k 26 f))) l
+
+    pub form-low : k < 12 → FormIs nm ws p k
+    form-low l = other (omega arith) (λ (z : k ≡ 12). omega arith) (λ (z : k ≡ 15). omega arith) (λ (z : k ≡ 18). omega arith) (λ (z : k ≡ 21). omega arith) (λ (z : k ≡ 23). omega arith) (λ (z : k ≡ 26). omega arith)
+
+    pub form-kind : Some (Prints nm ws p) → (k ≡ 12 → ⊥) → (k ≡ 15 → ⊥) → (k ≡ 18 → ⊥) → (k ≡ 21 → ⊥) → (k ≡ 23 → ⊥) → (k ≡ 26 → ⊥) → FormIs nm ws p k
+    form-kind s = other (let h = kind-small (s .is .tree) in omega (arith, ek, s .is .lies .kind-is))
 
   pub sugar-small : {n : ℕ} → at ws p 0 ≡ 18 → Some (Prints nm ws p) → Sugars nm ws p n → n < 4
   sugar-small k s g =

@@ -119,6 +119,10 @@ fn form(
     ensures { λ r. ⌜ FormIs (naming (now (text .entry)) (lent (now (starts .entry)) (now (lengths .entry)) known)) (now (ws .entry)) p r ⌝ }
 {
     let kind = get(ws, p, 0);
+    // Most records: their form is their kind.
+    if kind < 12 {
+        return kind;
+    }
     if kind == 12 {
         let requirements = get(ws, p, 5);
         return zero_or(requirements, 12, 40);

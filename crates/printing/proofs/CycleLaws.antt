@@ -26,12 +26,13 @@ use Rattle.naming.proofs.Lists.{left, left-more, left-none}
 use Rattle.shown_labels.specs.declared.Labels.{Labels}
 use Rattle.printing.specs.Answers.{Placed}
 use Rattle.printing.specs.declared.ListForm.{ListForm}
-use Rattle.shown_labels.specs.Pieces.{World, Reach, none-at, listed, LabelsIn, SomeLabels, behind-first, NextLabels, label-now, prefix, Labelling, own-label, own, Prints, Way, params-way, behind-way, signed-way, Printing, with-labels, Listed, Celled, leaf-text, list-field, list-sep, list-shown, list-count, Plain, Piece, Pieces, nothing, one, more}
+use Rattle.shown_labels.specs.Pieces.{World, Reach, none-at, listed, LabelsIn, SomeLabels, behind-first, NextLabels, label-now, prefix, Labelling, own-label, own, Prints, Way, params-way, behind-way, signed-way, Printing, with-labels, Listed, Celled, leaf-text, list-field, list-sep, list-shown, list-count, Plain, Piece, Pieces, nothing, one, more, rows}
 use Rattle.forms.specs.Forms.{Rowed}
 use Rattle.forms.proofs.ByKind.{tuple-of, function-type-of, generic-type-of, empty-list-of}
 use Rattle.shown_labels.proofs.LabelLaws.{prefixed, shown-labels}
 use Rattle.printing.proofs.LeafLaws.{list-of}
-use Rattle.forms.proofs.FormLaws.{child-below, child-holds}
+use Rattle.forms.proofs.FormLaws.{child-below, child-holds, form-low}
+use Rattle.forms.proofs.RowLaws.{rowed}
 
 module _ {room at₀ r : ℕ} {o o' : List ℕ} where
   pub puts-by : {A B : Name → Type 0} → ((s : Name) → B s → A s) → Puts A room o o' at₀ r → Puts B room o o' at₀ r
@@ -113,6 +114,23 @@ module _ {nm : Names} {ws : List ℕ} {p code q : ℕ} (d : Placed ws p code q) 
 
   pub placed : (q ≤ p) × Plain nm ws q (code % 128) s
   placed = placed-by (ltb code 128) refl
+
+-- an identifier or a module is its name alone
+only-piece : {nm : Names} {ws : List ℕ} {p row : ℕ} {s : Name} → 0 < row → row < 256 → Pieces nm ws p row s → Piece nm ws p row s
+only-piece l m nothing = absurd (omega arith)
+only-piece l m (one _ _ h) = h
+only-piece l m (more g _ _) = absurd (omega arith)
+
+name-row : (k : ℕ) → k < 2 → 11 ≡ getD rows k 0
+unfolding rows
+name-row zero l = refl
+name-row (suc zero) l = refl
+name-row (suc (suc k)) l = absurd (omega arith)
+
+pub name-alone : {nm : Names} {ws : List ℕ} {p k n : ℕ} {s : Name} → k ≡ at ws p 0 → k < 2 → n ≡ at ws p 3 → Prints nm ws p s → Named nm n s
+name-alone {nm} {ws} {p} {k} {n} {s} e l f h =
+    let v : Pieces nm ws p 11 s = rowed (form-low nm ws p e (omega arith)) (name-row k l) .each s h in
+    subst (λ (j : ℕ). Named nm j s) (sym f) (only-piece (omega arith) (omega arith) v .own (omega arith) .name (omega arith) .1)
 
 -- CELLS
 record Open (nm : Names) (ws : List ℕ) (host k n i sep : ℕ) (shown : Bool) (l : Labels) (s : Name) : Type 0 where
@@ -429,6 +447,10 @@ module _ (nm : Names) (ws : List ℕ) (p : ℕ) (l : Labels) {k : ℕ} (ek : k �
 -- PIECES
 pub world-below : {text : Text} {w : Words} {ws : List ℕ} {p q : ℕ} → World text w ws p → q < p → World text w ws q
 world-below h l = record { known = h .known; long = omega (arith, h .long) }
+
+-- the child that a piece of the codes 16 to 23 is
+pub child-at : {nm : Names} {ws : List ℕ} {p code q : ℕ} → 16 ≤ code → code < 24 → q ≡ at ws p (code - 16) → Some (Plain nm ws p code) → (q < p) × Some (Prints nm ws q)
+child-at l m e s = let v = s .is .child l m in (omega (arith, v .0), record { text = s .text; is = prints-at e (v .1) })
 
 pub labels-reach : {text : Text} {w : Words} {ws : List ℕ} {p n : ℕ} {l : Labels} → World text w ws p → l ≡ record { host = p; field = 6; left = n } → Reach ws l
 labels-reach {ws = ws} h e = subst (Reach ws) (sym e) (record { field = omega arith; long = h .long })

@@ -240,6 +240,12 @@ fn print_plain(
     }
     if code < 24 {
         let q = get(ws, p, code - 16);
+        let kind = get(ws, q, 0);
+        // An identifier or a module is its name alone.
+        if kind < 2 {
+            let k = get(ws, q, 3);
+            return put_named(out, at, room, text, starts, lengths, known, k);
+        }
         return print(out, at, room, ws, text, starts, lengths, known, q);
     }
     if code < 32 {

@@ -27,7 +27,7 @@ use Rattle.printing.proofs.+print+print_behind+print_cell+print_cells+p
 use Rattle.printing.proofs.+print+print_behind+print_cell+print_cells+print_params+print_plain+print_signed.Proof.PrintCell.{print-cell-put-sep-requires, print-cell-own-label-requires, print-cell-put-label-requires, print-cell-get-requires, print-cell-print-requires, print-cell-same-length, print-cell-returns}
 use Rattle.printing.proofs.+print+print_behind+print_cell+print_cells+print_params+print_plain+print_signed.Proof.PrintCells.{print-cells-Inv-loop, print-cells-μ-loop, print-cells-loop-holds, print-cells-same-length, print-cells-returns, print-cells-get-requires, print-cells-print-cell-requires, print-cells-next-labels-requires, print-cells-add-i, print-cells-loop-less, print-cells-loop-again, print-cells-same-length-2, print-cells-returns-2}
 use Rattle.printing.proofs.+print+print_behind+print_cell+print_cells+print_params+print_plain+print_signed.Proof.PrintParams.{print-params-get-requires, print-params-put-text-requires, print-params-same-length, print-params-returns, print-params-put-text-requires-2, print-params-list-form-requires, print-params-print-cells-requires, print-params-put-text-requires-3, print-params-same-length-2, print-params-returns-2, print-params-put-label-requires, print-params-print-requires, print-params-put-text-requires-4, print-params-same-length-3, print-params-returns-3}
-use Rattle.printing.proofs.+print+print_behind+print_cell+print_cells+print_params+print_plain+print_signed.Proof.PrintPlain.{print-plain-put-text-requires, print-plain-same-length, print-plain-returns, print-plain-sub-get, print-plain-get-requires, print-plain-put-named-requires, print-plain-same-length-2, print-plain-returns-2, print-plain-get-requires-2, print-plain-print-requires, print-plain-same-length-3, print-plain-returns-3, print-plain-put-leaf-requires, print-plain-same-length-4, print-plain-returns-4, print-plain-list-form-requires, print-plain-no-labels-requires, print-plain-print-cells-requires, print-plain-same-length-5, print-plain-returns-5, print-plain-labels-of-requires, print-plain-get-requires-3, print-plain-print-signed-requires, print-plain-same-length-6, print-plain-returns-6, print-plain-no-labels-requires-2, print-plain-get-requires-4, print-plain-print-params-requires, print-plain-same-length-7, print-plain-returns-7}
+use Rattle.printing.proofs.+print+print_behind+print_cell+print_cells+print_params+print_plain+print_signed.Proof.PrintPlain.{print-plain-put-text-requires, print-plain-same-length, print-plain-returns, print-plain-sub-get, print-plain-get-requires, print-plain-put-named-requires, print-plain-same-length-2, print-plain-returns-2, print-plain-get-requires-2, print-plain-get-requires-3, print-plain-get-requires-4, print-plain-put-named-requires-2, print-plain-same-length-3, print-plain-returns-3, print-plain-print-requires, print-plain-same-length-4, print-plain-returns-4, print-plain-put-leaf-requires, print-plain-same-length-5, print-plain-returns-5, print-plain-list-form-requires, print-plain-no-labels-requires, print-plain-print-cells-requires, print-plain-same-length-6, print-plain-returns-6, print-plain-labels-of-requires, print-plain-get-requires-5, print-plain-print-signed-requires, print-plain-same-length-7, print-plain-returns-7, print-plain-no-labels-requires-2, print-plain-get-requires-6, print-plain-print-params-requires, print-plain-same-length-8, print-plain-returns-8}
 use Rattle.printing.proofs.+print+print_behind+print_cell+print_cells+print_params+print_plain+print_signed.Proof.PrintSigned.{print-signed-get-requires, print-signed-get-requires-2, print-signed-get-requires-3, print-signed-print-requires, print-signed-print-behind-requires, print-signed-same-length, print-signed-returns, print-signed-print-behind-requires-2, print-signed-same-length-2, print-signed-returns-2}
 use Rattle.printing.proofs.+print+print_behind+print_cell+print_cells+print_params+print_plain+print_signed.{statement}
 use Rattle.printing.proofs.+print+print_behind+print_cell+print_cells+print_params+print_plain+print_signed.Tie.{close}
@@ -124,27 +124,32 @@ pub +print+print-behind+print-cell+print-cells+print-params+print-plain+print-si
     (print-plain-same-length-2 t)
     (print-plain-returns-2 t)
     (print-plain-get-requires-2 t)
-    (print-plain-print-requires t)
+    (print-plain-get-requires-3 t)
+    (print-plain-get-requires-4 t)
+    (print-plain-put-named-requires-2 t)
     (print-plain-same-length-3 t)
     (print-plain-returns-3 t)
-    (print-plain-put-leaf-requires t)
+    (print-plain-print-requires t)
     (print-plain-same-length-4 t)
     (print-plain-returns-4 t)
+    (print-plain-put-leaf-requires t)
+    (print-plain-same-length-5 t)
+    (print-plain-returns-5 t)
     (print-plain-list-form-requires t)
     (print-plain-no-labels-requires t)
     (print-plain-print-cells-requires t)
-    (print-plain-same-length-5 t)
-    (print-plain-returns-5 t)
-    (print-plain-labels-of-requires t)
-    (print-plain-get-requires-3 t)
-    (print-plain-print-signed-requires t)
     (print-plain-same-length-6 t)
     (print-plain-returns-6 t)
-    (print-plain-no-labels-requires-2 t)
-    (print-plain-get-requires-4 t)
-    (print-plain-print-params-requires t)
+    (print-plain-labels-of-requires t)
+    (print-plain-get-requires-5 t)
+    (print-plain-print-signed-requires t)
     (print-plain-same-length-7 t)
-    (print-plain-returns-7 t))
+    (print-plain-returns-7 t)
+    (print-plain-no-labels-requires-2 t)
+    (print-plain-get-requires-6 t)
+    (print-plain-print-params-requires t)
+    (print-plain-same-length-8 t)
+    (print-plain-returns-8 t))
     λ t. print-signed-lts.spec (print-signed-claims t) (print-signed-at t)
     print-signed.Post
     (print-signed-get-requires t)
