@@ -18,7 +18,7 @@ use Rattle.words.specs.Table.{part, words-of, table, Fitting, Holds}
 use Rattle.words.specs.declared.Words.{Words}
 use Rattle.words.proofs.Parts.{part-length}
 
-and-no : (b : Bool) → (b && false) ≡ false
+pub and-no : (b : Bool) → (b && false) ≡ false
 and-no true = refl
 and-no false = refl
 

@@ -2,3 +2,4 @@ pub mod Parts
 pub mod Noting
 pub mod Keeping
 pub mod Loops
+pub mod Lettering

@@ -15,6 +15,7 @@ use Rattle.text.proofs.Steps.{differ}
 use Rattle.words.specs.Table.{part, Turns}
 use Rattle.words.specs.declared.Boundary.{Boundary}
 use Rattle.words.proofs.Parts.{part-none, part-snoc, part-one, part-length}
+use Rattle.words.proofs.Keeping.{and-no}
 
 abbrev pub boundary : Bool → ℕ → Boundary
 boundary e s = record { ended = e; start = s }
@@ -43,7 +44,7 @@ module _ (p c : ℕ) (t : Text) where
   note-grows [] ws h e k = absurd (omega arith)
   note-grows (x ∷ word) ws h e k = rw (note-words-from, e, k)
 
-  count-starts : (ws : ℕ) → starts c ≡ true → count-words-from 0 p (c ∷ t) ws ≡ count-words-from 1 c t ws
+  pub count-starts : (ws : ℕ) → starts c ≡ true → count-words-from 0 p (c ∷ t) ws ≡ count-words-from 1 c t ws
   unfolding count-words-from
   count-starts ws e = rw (count-words-from, e)
 
@@ -56,12 +57,12 @@ module _ (p c : ℕ) (t : Text) where
   count-ends zero ws h e = absurd (omega arith)
   count-ends (suc n) ws h e = rw (count-words-from, e)
 
-  count-splits : (n ws : ℕ) → 0 < n → is "_" c ≡ false → (not (upper p) && upper c) ≡ true → count-words-from n p (c ∷ t) ws ≡ count-words-from 1 c t (keep-count n ws)
+  pub count-splits : (n ws : ℕ) → 0 < n → is "_" c ≡ false → (not (upper p) && upper c) ≡ true → count-words-from n p (c ∷ t) ws ≡ count-words-from 1 c t (keep-count n ws)
   unfolding count-words-from
   count-splits zero ws h e k = absurd (omega arith)
   count-splits (suc n) ws h e k = rw (count-words-from, e, k)
 
-  count-grows : (n ws : ℕ) → 0 < n → is "_" c ≡ false → (not (upper p) && upper c) ≡ false → count-words-from n p (c ∷ t) ws ≡ count-words-from (suc n) c t ws
+  pub count-grows : (n ws : ℕ) → 0 < n → is "_" c ≡ false → (not (upper p) && upper c) ≡ false → count-words-from n p (c ∷ t) ws ≡ count-words-from (suc n) c t ws
   unfolding count-words-from
   count-grows zero ws h e k = absurd (omega arith)
   count-grows (suc n) ws h e k = rw (count-words-from, e, k)
@@ -91,15 +92,11 @@ pub no-capital : (a b : Bool) → b ≡ false → (not a && b) ≡ false
 no-capital true b e = refl
 no-capital false b e = e
 
-and-false : (a : Bool) → (a && false) ≡ false
-and-false true = refl
-and-false false = refl
-
 -- what stands behind `_` is no capital
 pub past-capitals : (b : ℕ) → 95 < b → upper b ≡ false
 past-capitals b h =
     let l : 90 < b = omega arith in
-    rw (lt-leb b 90 l) (and-false (leb 65 b))
+    rw (lt-leb b 90 l) (and-no (leb 65 b))
 
 one-more : (at : ℕ) → (at + 1) - at ≡ 1
 one-more at = omega arith
