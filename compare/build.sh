@@ -1,12 +1,12 @@
 # How the programs of this folder are built; sourced by the commands beside it. All results go to target/compare.
 #
 # RUST_SOURCE   the Rust source to compare with, unchanged and never committed
-# LIBCAPI       our calls: what `rt staticlib capi` writes
+# LIBCAPI       the folder of our calls: what `rt staticlib capi` and `rt staticlib capi_check` write
 # ORACLE        an instrumented copy of the Rust, or nothing
 root=$(cd "$here/.." && pwd)
 out=$root/target/compare
 RUST_SOURCE=${RUST_SOURCE:-$root/../shared/docs/src/crates/ag-engine/src/swift_demangle.rs}
-LIBCAPI=${LIBCAPI:-$root/target/staticlib/libcapi.a}
+LIBCAPI=${LIBCAPI:-$root/target/staticlib}
 mkdir -p "$out"
 link=()
 
@@ -24,8 +24,11 @@ reference() {
 
 # Our calls.
 capi() {
-    [ -f "$LIBCAPI" ] || fail "no $LIBCAPI: run 'rt staticlib capi' first, or set LIBCAPI"
-    link+=(-C "link-arg=$(cd "$(dirname "$LIBCAPI")" && pwd)/$(basename "$LIBCAPI")")
+    local name
+    for name in capi capi_check; do
+        [ -f "$LIBCAPI/lib$name.a" ] || fail "no $LIBCAPI/lib$name.a: run 'rt staticlib $name' first, or set LIBCAPI"
+        link+=(-C "link-arg=$(cd "$LIBCAPI" && pwd)/lib$name.a")
+    done
 }
 
 # An instrumented copy of the Rust, where one is given.

@@ -1,6 +1,7 @@
-/* Cepruvels for C: the calls of the crate `swift_demangle`, as the crate `capi` exports them.
+/* Cepruvels for C: the calls of the crate `swift_demangle`, as the crates `capi` (reading) and `capi_check` (shape check) export them.
  *
- * `rt staticlib capi` proves the calls and writes target/staticlib/libcapi.a (x86-64 Linux); link that archive and nothing else. The calls
+ * `rt staticlib capi` proves the four calls of the reading and writes target/staticlib/libcapi.a (x86-64 Linux), `rt staticlib capi_check` those
+ * of the shape check and libcapi_check.a; link the one that has your calls, or both, and nothing else. The calls
  * allocate nothing, keep nothing from one call to the next and write only where this page says so; any number of threads may call
  * at once, each with memory of its own. What each call answers is proved equal to the definition (crates/definition/specs).
  *
