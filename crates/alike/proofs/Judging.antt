@@ -20,7 +20,7 @@ use Rattle.definition.proofs.JudgingAlike.{judging-alike}
 use Rattle.endings.specs.Answers.{Answers}
 use Rattle.agreement.specs.Agreement.{same-end, same-counts, same-values, whole-agree, stopped-agree, judged}
 use Rattle.agreement.proofs.Compared.{one-length}
-use Rattle.swift_demangle.proofs.Users.{Wrote, wrote, symbol-read-k-plain, type-read-k-plain, symbol-check-k-plain, type-check-k-plain}
+use Rattle.endings.proofs.Users.{Wrote, wrote, symbol-read-k-plain, type-read-k-plain, symbol-check-k-plain, type-check-k-plain}
 
 -- STOPPED CALLS
 -- the numbers that were written are still within the slice

@@ -20,7 +20,7 @@ fn symbol_whole(
     ensures { λ r. ⌜ r ≡ whole-agree (Reading.demangle (now (text .entry)) ceiling (length (now («reading_workspace» .entry))) (length (now (out .entry))) .values) (Check.shape (now (text .entry)) ceiling (length (now («check_workspace» .entry))) .values) ⌝ }
 {
     let reading = swift_demangle::demangle(text, ceiling, reading_workspace, out);
-    let check = swift_demangle::shape(text, ceiling, check_workspace);
+    let check = swift_shape::shape(text, ceiling, check_workspace);
     whole_agrees(reading, check)
 }
 
@@ -34,7 +34,7 @@ fn type_whole(
     ensures { λ r. ⌜ r ≡ whole-agree (Reading.demangle-type (now (text .entry)) ceiling (length (now («reading_workspace» .entry))) (length (now (out .entry))) .values) (Check.shape-type (now (text .entry)) ceiling (length (now («check_workspace» .entry))) .values) ⌝ }
 {
     let reading = swift_demangle::demangle_type(text, ceiling, reading_workspace, out);
-    let check = swift_demangle::shape_type(text, ceiling, check_workspace);
+    let check = swift_shape::shape_type(text, ceiling, check_workspace);
     whole_agrees(reading, check)
 }
 
@@ -56,7 +56,7 @@ fn symbol_stopped(
         reading_workspace,
         reading_stack,
     );
-    let check = swift_demangle::shape_stopped(text, ceiling, k, check_workspace, check_stack);
+    let check = swift_shape::shape_stopped(text, ceiling, k, check_workspace, check_stack);
     stopped_agrees(reading, check, reading_stack, check_stack)
 }
 
@@ -78,7 +78,7 @@ fn type_stopped(
         reading_workspace,
         reading_stack,
     );
-    let check = swift_demangle::shape_type_stopped(text, ceiling, k, check_workspace, check_stack);
+    let check = swift_shape::shape_type_stopped(text, ceiling, k, check_workspace, check_stack);
     stopped_agrees(reading, check, reading_stack, check_stack)
 }
 

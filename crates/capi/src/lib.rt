@@ -2,7 +2,7 @@
 // accepted), its place, steps, charged total, wraps, and the length of what was written.
 ghost use lib.ListN.{length};
 ghost use Rattle.definition.specs.Reading as Reading;
-ghost use Rattle.calls.specs.Calls.{Scratch};
+ghost use Rattle.endings.specs.Calls.{Scratch};
 ghost use Rattle.values.specs.Told.{Told};
 
 // Reads a symbol.

@@ -3,7 +3,7 @@
 ghost use mathlib.Core.Path.{_≡_};
 ghost use lib.ListN.{length};
 ghost use Rattle.definition.specs.Check as Check;
-ghost use Rattle.calls.specs.Calls.{Scratch};
+ghost use Rattle.endings.specs.Calls.{Scratch};
 ghost use Rattle.values.specs.Six.{six};
 ghost use Rattle.values.specs.Told.{Told};
 
@@ -17,7 +17,7 @@ pub extern "C" fn swift_shape(
 )
     ensures { λ _. ⌜ (now (answer .exit) ≡ six ((Check.shape (now (text .entry)) ceiling (length (now (workspace .entry)))) .values)) × Scratch 8 ceiling ((Check.shape (now (text .entry)) ceiling (length (now (workspace .entry)))) .values .number) (now (workspace .entry)) (now (workspace .exit)) ⌝ }
 {
-    let a = swift_demangle::shape(text, ceiling, workspace);
+    let a = swift_shape::shape(text, ceiling, workspace);
     *answer = values::numbers(a);
 }
 
@@ -31,7 +31,7 @@ pub extern "C" fn swift_shape_type(
 )
     ensures { λ _. ⌜ (now (answer .exit) ≡ six ((Check.shape-type (now (text .entry)) ceiling (length (now (workspace .entry)))) .values)) × Scratch 8 ceiling ((Check.shape-type (now (text .entry)) ceiling (length (now (workspace .entry)))) .values .number) (now (workspace .entry)) (now (workspace .exit)) ⌝ }
 {
-    let a = swift_demangle::shape_type(text, ceiling, workspace);
+    let a = swift_shape::shape_type(text, ceiling, workspace);
     *answer = values::numbers(a);
 }
 
@@ -47,7 +47,7 @@ pub extern "C" fn swift_shape_stopped(
 )
     ensures { λ _. ⌜ Told (Check.shape-stopped (now (text .entry)) ceiling k (length (now (workspace .entry))) (length (now (out .entry)))) (now (out .entry)) (now (out .exit)) (now (answer .exit)) × Scratch 8 ceiling ((Check.shape-stopped (now (text .entry)) ceiling k (length (now (workspace .entry))) (length (now (out .entry)))) .values .number) (now (workspace .entry)) (now (workspace .exit)) ⌝ }
 {
-    let a = swift_demangle::shape_stopped(text, ceiling, k, workspace, out);
+    let a = swift_shape::shape_stopped(text, ceiling, k, workspace, out);
     *answer = values::numbers(a);
 }
 
@@ -63,6 +63,6 @@ pub extern "C" fn swift_shape_type_stopped(
 )
     ensures { λ _. ⌜ Told (Check.shape-type-stopped (now (text .entry)) ceiling k (length (now (workspace .entry))) (length (now (out .entry)))) (now (out .entry)) (now (out .exit)) (now (answer .exit)) × Scratch 8 ceiling ((Check.shape-type-stopped (now (text .entry)) ceiling k (length (now (workspace .entry))) (length (now (out .entry)))) .values .number) (now (workspace .entry)) (now (workspace .exit)) ⌝ }
 {
-    let a = swift_demangle::shape_type_stopped(text, ceiling, k, workspace, out);
+    let a = swift_shape::shape_type_stopped(text, ceiling, k, workspace, out);
     *answer = values::numbers(a);
 }

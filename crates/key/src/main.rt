@@ -68,9 +68,9 @@ fn read(is_type: bool, text: &[u8], ws: &mut [u32], out: &mut [u8]) -> Answer {
 
 fn check(is_type: bool, text: &[u8], ws: &mut [u32]) -> Answer {
     if is_type {
-        return swift_demangle::shape_type(text, 65536, ws);
+        return swift_shape::shape_type(text, 65536, ws);
     }
-    swift_demangle::shape(text, 65536, ws)
+    swift_shape::shape(text, 65536, ws)
 }
 
 fn answer_line(line: &[u8], ws: &mut [u32], out: &mut [u8]) {

@@ -10,7 +10,7 @@ use Rattle.definition.specs.Base.{if_then_else_}
 use Rattle.definition.specs.Text.{Text}
 use Rattle.definition.specs.Calls.{Answer, refusal, within}
 use Rattle.definition.specs.Reading.{read, demangle}
-use Rattle.swift_demangle.proofs.Users.{symbol-read-plain}
+use Rattle.endings.proofs.Users.{symbol-read-plain}
 
 -- the length that an answer tells is that of what is written
 abbrev pub Told : Answer → Type 0

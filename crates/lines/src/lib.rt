@@ -58,7 +58,7 @@ fn answer_shape(line: &[u8], ws: &mut [u32], out: &mut [u8], at: usize) -> usize
     requires { ⌜ Space (now out) at ⌝ }
     ensures { λ r. ⌜ Appends (now (out .entry)) (now (out .exit)) at (shape-answer (Check.shape (now (line .entry)) 256 16384 .values)) r × (length (now (ws .exit)) ≡ 16384) ⌝ }
 {
-    match swift_demangle::shape(line, CEILING, ws) {
+    match swift_shape::shape(line, CEILING, ws) {
         Answer::Accepted(counts, _) => put_counts(out, at, counts),
         Answer::Refused(refusal, place) => put_refusal(out, at, values::number(refusal), place),
     }

@@ -122,9 +122,9 @@ fn read(call: usize, text: &[u8], ceiling: usize, ws: &mut [u32], out: &mut [u8]
 // The calls 2 and 3.
 fn check(call: usize, text: &[u8], ceiling: usize, ws: &mut [u32]) {
     if call == 2 {
-        put_answer(swift_demangle::shape(text, ceiling, ws));
+        put_answer(swift_shape::shape(text, ceiling, ws));
     } else {
-        put_answer(swift_demangle::shape_type(text, ceiling, ws));
+        put_answer(swift_shape::shape_type(text, ceiling, ws));
     }
 }
 
@@ -139,8 +139,8 @@ fn stopped(
     match call {
         4 => swift_demangle::demangle_stopped(text, ceiling, k, ws, out),
         5 => swift_demangle::demangle_type_stopped(text, ceiling, k, ws, out),
-        6 => swift_demangle::shape_stopped(text, ceiling, k, ws, out),
-        _ => swift_demangle::shape_type_stopped(text, ceiling, k, ws, out),
+        6 => swift_shape::shape_stopped(text, ceiling, k, ws, out),
+        _ => swift_shape::shape_type_stopped(text, ceiling, k, ws, out),
     }
 }
 

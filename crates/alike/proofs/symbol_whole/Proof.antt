@@ -7,7 +7,7 @@ use Rattle.alike.proofs.symbol_whole.Reads as reads
 use Rattle.alike.proofs.symbol_whole.Lts as lts
 use Rattle.agreement.proofs.whole_agrees.Reads as whole-agrees-reads
 use Rattle.swift_demangle.proofs.demangle.Reads as demangle-reads
-use Rattle.swift_demangle.proofs.shape.Reads as shape-reads
+use Rattle.swift_shape.proofs.shape.Reads as shape-reads
 
 -- src/lib.rt:22:9
 demangle-requires : tie.Need-demangle-requires

@@ -1,6 +1,6 @@
 use mathlib.Core.Path.{ap}
 use Rattle.definition.specs.Calls.{Values}
-use Rattle.calls.proofs.Telling.{told, scratch-told}
+use Rattle.endings.proofs.Telling.{told, scratch-told}
 use borrow.Author.Needs.{needs}
 use Rattle.capi.proofs.swift_demangle.Statement.{statement}
 use Rattle.capi.proofs.swift_demangle.Tie as tie

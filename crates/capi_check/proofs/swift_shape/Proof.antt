@@ -1,14 +1,14 @@
 use mathlib.Core.Path.{ap, _∙_}
 use Rattle.definition.specs.Calls.{Values}
 use Rattle.values.specs.Six.{six}
-use Rattle.calls.proofs.Telling.{scratch-told}
+use Rattle.endings.proofs.Telling.{scratch-told}
 use borrow.Author.Needs.{needs}
 use Rattle.capi_check.proofs.swift_shape.Statement.{statement}
 use Rattle.capi_check.proofs.swift_shape.Tie as tie
 use Rattle.capi_check.proofs.swift_shape.Reads as reads
 use Rattle.capi_check.proofs.swift_shape.Lts as lts
 use Rattle.values.proofs.numbers.Reads as numbers-reads
-use Rattle.swift_demangle.proofs.shape.Reads as shape-reads
+use Rattle.swift_shape.proofs.shape.Reads as shape-reads
 
 -- src/lib.rt:51:9
 shape-requires : tie.Need-shape-requires

@@ -10,7 +10,7 @@ use Rattle.lines.proofs.answer_shape.Lts as lts
 use Rattle.line_forms.proofs.put_counts.Reads as put-counts-reads
 use Rattle.line_forms.proofs.put_refusal.Reads as put-refusal-reads
 use Rattle.values.proofs.number.Reads as number-reads
-use Rattle.swift_demangle.proofs.shape.Reads as shape-reads
+use Rattle.swift_shape.proofs.shape.Reads as shape-reads
 
 -- src/lib.rt:61:11
 shape-requires : tie.Need-shape-requires

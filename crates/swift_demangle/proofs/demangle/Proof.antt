@@ -4,7 +4,7 @@ use Rattle.swift_demangle.proofs.demangle.Statement.{statement}
 use Rattle.swift_demangle.proofs.demangle.Tie as tie
 use Rattle.swift_demangle.proofs.demangle.Reads as reads
 use Rattle.swift_demangle.proofs.demangle.Lts as lts
-use Rattle.calls.proofs.read.Reads as read-reads
+use Rattle.swift_demangle.proofs.read.Reads as read-reads
 
 -- src/lib.rt:17:5
 read-requires : tie.Need-read-requires

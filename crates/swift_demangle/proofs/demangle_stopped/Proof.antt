@@ -4,7 +4,7 @@ use Rattle.swift_demangle.proofs.demangle_stopped.Statement.{statement}
 use Rattle.swift_demangle.proofs.demangle_stopped.Tie as tie
 use Rattle.swift_demangle.proofs.demangle_stopped.Reads as reads
 use Rattle.swift_demangle.proofs.demangle_stopped.Lts as lts
-use Rattle.calls.proofs.read_stopped.Reads as read-stopped-reads
+use Rattle.swift_demangle.proofs.read_stopped.Reads as read-stopped-reads
 
 -- src/lib.rt:51:5
 read-stopped-requires : tie.Need-read-stopped-requires

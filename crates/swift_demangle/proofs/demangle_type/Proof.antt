@@ -4,7 +4,7 @@ use Rattle.swift_demangle.proofs.demangle_type.Statement.{statement}
 use Rattle.swift_demangle.proofs.demangle_type.Tie as tie
 use Rattle.swift_demangle.proofs.demangle_type.Reads as reads
 use Rattle.swift_demangle.proofs.demangle_type.Lts as lts
-use Rattle.calls.proofs.read.Reads as read-reads
+use Rattle.swift_demangle.proofs.read.Reads as read-reads
 
 -- src/lib.rt:24:5
 read-requires : tie.Need-read-requires
