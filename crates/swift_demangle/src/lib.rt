@@ -12,13 +12,7 @@ use runs::Final;
 
 // A symbol or a type, by what it is: what is checked before a run, then the run
 
-fn read(
-    text: &[u8],
-    what: Final,
-    ceiling: usize,
-    workspace: &mut [u32],
-    out: &mut [u8],
-) -> Answer
+fn read(text: &[u8], what: Final, ceiling: usize, workspace: &mut [u32], out: &mut [u8]) -> Answer
     ensures { λ r. ⌜ Answers (read-whole what (now (text .entry)) ceiling (length (now (workspace .entry))) (length (now (out .entry)))) (now (out .entry)) (now (out .exit)) r × Scratch 64 ceiling (Enums.values r .number) (now (workspace .entry)) (now (workspace .exit)) ⌝ }
 {
     match admission::admit(text, what, ceiling, 64, workspace.len()) {

@@ -16,11 +16,16 @@ use Rattle.definition.specs.Words.{keep}
 use Rattle.definition.specs.Check.{keep-count}
 use Rattle.words.specs.Table.{part, words-of, table, Fitting, Holds}
 use Rattle.words.specs.declared.Words.{Words}
+use Rattle.text.proofs.Steps.{differ}
 use Rattle.words.proofs.Parts.{part-length}
 
 pub and-no : (b : Bool) → (b && false) ≡ false
 and-no true = refl
 and-no false = refl
+
+pub both-parts : (a b : Bool) → (a && b) ≡ true → (a ≡ true) × (b ≡ true)
+both-parts true b e = (refl, e)
+both-parts false b e = absurd (differ (sym e))
 
 pub length-words-of : (text : Text) (s l : List ℕ) (n : ℕ) → length (words-of text s l n) ≡ n
 unfolding words-of

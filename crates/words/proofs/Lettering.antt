@@ -17,7 +17,7 @@ use Rattle.words.specs.declared.Lettered.{Lettered}
 use Rattle.words.specs.declared.Lettered.the-variants as Lettered
 use Rattle.words.proofs.Parts.{part-none, part-cons}
 use Rattle.text.proofs.Steps.{differ}
-use Rattle.words.proofs.Keeping.{and-no, count-short, count-full, count-adds}
+use Rattle.words.proofs.Keeping.{and-no, both-parts, count-short, count-full, count-adds}
 use Rattle.words.proofs.Noting.{count-starts, count-splits, count-grows, count-end}
 
 -- MORE WORDS
@@ -49,11 +49,7 @@ added-all known (suc n) l h = go (λ k. added-all known n l k) (ltb (known + n) 
         rw (f k) (count-full 2 26 (omega arith))
 
 -- LETTERS
-both-parts : (a b : Bool) → (a && b) ≡ true → (a ≡ true) × (b ≡ true)
-both-parts true b e = (refl, e)
-both-parts false b e = absurd (differ (sym e))
-
-not-true : (b : Bool) → not b ≡ true → b ≡ false
+pub not-true : (b : Bool) → not b ≡ true → b ≡ false
 not-true true e = absurd (differ (sym e))
 not-true false e = refl
 

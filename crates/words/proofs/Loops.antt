@@ -1,9 +1,11 @@
 -- The loops of `note_words` and `count_words`. Assumes nothing.
 use mathlib.Core.Path.{_≡_, refl, sym, ap, _∙_, subst}
-use mathlib.Core.Bool.{Bool, true, false}
+use mathlib.Core.Bool.{Bool, true, false, _&&_}
 use Prim.Native.Nat.{ℕ, _+_, _-_, _≤_, _<_}
 use native.Mathlib.Omega.{arith}
-use lib.ListN.{length, getD}
+use borrow.Author.Tests.{leb-true, leb-false, ltb-true, ltb-false}
+use lib.Dec.{leb, ltb}
+use lib.ListN.{length, getD, length-set}
 use Rattle.definition.specs.Base.{if_then_else_}
 use Rattle.definition.specs.Text.{Text}
 use Rattle.definition.specs.Words.{keep, note-words-from, note-words}
@@ -12,18 +14,44 @@ use Rattle.words.specs.Table.{part, table, Fitting, Holds, Turns}
 use Rattle.words.specs.declared.Words.{Words}
 use Rattle.words.specs.declared.Boundary.{Boundary}
 use Rattle.words.proofs.Parts.{part-none, part-cons}
+use Rattle.text.proofs.Steps.{differ}
+use Rattle.words.proofs.Keeping.{both-parts, stored, holds-short, holds-full, holds-stored}
 use Rattle.words.proofs.Noting.{note-end, count-end}
 
--- behind the `if` of a turn: a word has ended, or none
+-- the arrays of a table
+pub record Sized (w : Words) : Type 0 where
+  pub starts : length (w .starts) ≡ 26
+  pub lengths : length (w .lengths) ≡ 26
+
+pub sized-stored : {w : Words} (start end : ℕ) → Sized w → Sized (stored w start end)
+sized-stored {w} start end z = record { starts = length-set (w .starts) (w .count) start ∙ z .starts; lengths = length-set (w .lengths) (w .count) (end - start) ∙ z .lengths }
+
+-- there is room for a word that is kept
+pub kept-room : (b : Bool) (n : ℕ) {count : ℕ} → (b && (leb 2 n && ltb count 26)) ≡ true → count < 26
+kept-room b n {count} q = ltb-true count 26 (both-parts (leb 2 n) (ltb count 26) (both-parts b (leb 2 n && ltb count 26) q .1) .1)
+
+-- behind the `if` of a turn: a word has ended, or none; it is kept, or not
 module _ (text : Text) (start at : ℕ) (known : Words) where
   abbrev pub Behind : Bool → Words → Type 0
   Behind b after = Holds text (if b then keep (part text start at) (table text known) else table text known) known after
 
-  pub behind-ended : {b : Bool} {after : Words} → b ≡ true → Holds text (keep (part text start at) (table text known)) known after → Behind b after
-  behind-ended {after = after} e h = subst (λ (b : Bool). Behind b after) (sym e) h
+  module _ (l : start ≤ at) (e : at ≤ length text) (g : Fitting text known) where
+    pub kept-stored : (b : Bool) → Sized known → (b && (leb 2 (at - start) && ltb (known .count) 26)) ≡ true → Behind b (stored known start at)
+    kept-stored true z q =
+        let f = both-parts (leb 2 (at - start)) (ltb (known .count) 26) q in
+        let k : known .count < 26 = ltb-true (known .count) 26 (f .1) in
+        let ls : known .count < length (known .starts) = rw (z .starts) k in
+        let ll : known .count < length (known .lengths) = rw (z .lengths) k in
+        holds-stored text known start at l e g (leb-true 2 (at - start) (f .0)) k ls ll
+    kept-stored false z q = absurd (differ (sym q))
 
-  pub behind-open : {b : Bool} → b ≡ false → Fitting text known → Behind b known
-  behind-open e g = subst (λ (b : Bool). Behind b known) (sym e) (record { is = refl; fitting = g; more = omega arith })
+    pub kept-not : (b : Bool) → (b && (leb 2 (at - start) && ltb (known .count) 26)) ≡ false → Behind b known
+    kept-not true q = go (leb 2 (at - start)) refl
+      where
+        go : (x : Bool) → leb 2 (at - start) ≡ x → Holds text (keep (part text start at) (table text known)) known known
+        go false r = holds-short text known start at l e g (leb-false 2 (at - start) r)
+        go true r = holds-full text known start at l e g (ltb-false (known .count) 26 (ap (λ (y : Bool). y && ltb (known .count) 26) (sym r) ∙ q))
+    kept-not false q = record { is = refl; fitting = g; more = omega arith }
 
 module _ (start at known : ℕ) where
   pub record CountBehind (b : Bool) (after : ℕ) : Type 0 where

@@ -1,6 +1,7 @@
 // The table of the words that later identifiers use again.
 ghost use mathlib.Core.Path.{_≡_};
-ghost use mathlib.Core.Bool.{true};
+ghost use mathlib.Core.Bool.{_&&_, true};
+ghost use lib.Dec.{leb, ltb};
 ghost use mathlib.Core.List.{[]};
 ghost use Prim.Native.Nat.{_+_, _-_, _≤_, _<_};
 ghost use lib.ListN.{length};
@@ -46,24 +47,18 @@ fn starts_word(b: u8) -> bool
     b != 95
 }
 
-// The table with one word more, if the word has 2 bytes and there is room.
-fn keep(w: Words, start: usize, end: usize) -> Words
-    requires { ⌜ (start ≤ end) × ((end ≤ 65535) × (w .count ≤ 26)) ⌝ }
-    ensures { λ r. ⌜ ((text : Text) → end ≤ length text → Fitting text w → Holds text (W.keep (part text start end) (table text w)) w r) ⌝ }
+// Whether a word is kept: it has ended, it has 2 bytes or more, and there is room.
+fn is_kept(ended: bool, count: usize, start: usize, at: usize) -> bool
+    requires { ⌜ start ≤ at ⌝ }
+    ensures { λ r. ⌜ r ≡ (ended && (leb 2 (at - start) && ltb count 26)) ⌝ }
 {
-    let count = w.count;
-    let size = end - start;
-    if size < 2 {
-        return w;
+    if !ended {
+        return false;
     }
-    if 26 <= count {
-        return w;
+    if at - start < 2 {
+        return false;
     }
-    let mut r = w;
-    r.starts[count] = start as u16;
-    r.lengths[count] = size as u16;
-    r.count = count + 1;
-    r
+    count < 26
 }
 
 // What a byte does to the word that is open.
@@ -120,7 +115,7 @@ fn turn(start: usize, at: usize, previous: u8, b: u8) -> Boundary
     }
 }
 
-// The words of text[from..to], behind those of the table.
+// The words of text[from..to], behind those of the table. A word is stored at two places here, and not by a function: the table would be copied for it.
 pub fn note_words(text: &[u8], from: usize, to: usize, w: Words) -> Words
     requires { ⌜ (from ≤ to) × ((to ≤ length (now text)) × ((length (now text) ≤ 65535) × Fitting (now text) w)) ⌝ }
     ensures { λ r. ⌜ Holds (now (text .entry)) (W.note-words (part (now (text .entry)) from to) (table (now (text .entry)) w)) w r ⌝ }
@@ -132,14 +127,23 @@ pub fn note_words(text: &[u8], from: usize, to: usize, w: Words) -> Words
     while at < to {
         let b = text[at];
         let next = turn(start, at, previous, b);
-        if next.ended {
-            known = keep(known, start, at);
+        let count = known.count;
+        if is_kept(next.ended, count, start, at) {
+            known.starts[count] = start as u16;
+            known.lengths[count] = (at - start) as u16;
+            known.count = count + 1;
         }
         start = next.start;
         previous = b;
         at += 1;
     }
-    keep(known, start, to)
+    let count = known.count;
+    if is_kept(true, count, start, to) {
+        known.starts[count] = start as u16;
+        known.lengths[count] = (to - start) as u16;
+        known.count = count + 1;
+    }
+    known
 }
 
 // One word more, where only their number is known.
