@@ -13,10 +13,6 @@ use lib.Seq.{take-at, drop-at, drop-drop, set-split, append-snoc, sets, sets-eq,
 abbrev pub part : List ℕ → ℕ → ℕ → List ℕ
 part text from to = take (to - from) (drop from text)
 
--- o, with text[from..to] in the place of as many bytes from `at` on
-abbrev pub copied : List ℕ → ℕ → List ℕ → ℕ → ℕ → List ℕ
-copied o at text from to = take at o ++ part text from to ++ drop (at + (to - from)) o
-
 -- What may be appended to: `at` is the place of the next byte, or room + 1 once something did not fit; the slice is no longer than room
 pub record Room (room : ℕ) (o : List ℕ) (at : ℕ) : Type 0 where
   pub past : at ≤ room + 1

@@ -1,7 +1,7 @@
 -- `output::put_part` meets its contract. Assumes nothing.
 use borrow.Author.Needs.{needs}
 use native.Mathlib.Omega.{arith}
-use Rattle.output.proofs.Copying.{part-out, part-in, part-whole}
+use Rattle.output.proofs.Parts.{part-out, part-in, part-whole}
 use Rattle.output.proofs.put_part.Statement.{statement}
 use Rattle.output.proofs.put_part.Tie as tie
 

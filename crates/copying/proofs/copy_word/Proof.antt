@@ -3,9 +3,9 @@ use mathlib.Core.Path.{ap, _∙_}
 use native.Mathlib.Omega.{arith}
 use lib.ListN.{length, take, drop}
 use lib.Seq.{length-sets}
-use Rattle.output.proofs.Copying.{stored-room, copied-eight}
-use Rattle.output.proofs.copy_word.Statement.{statement}
-use Rattle.output.proofs.copy_word.Tie as tie
+use Rattle.copying.proofs.Copying.{stored-room, copied-eight}
+use Rattle.copying.proofs.copy_word.Statement.{statement}
+use Rattle.copying.proofs.copy_word.Tie as tie
 
 shared-slice-read-a : tie.Need-shared-slice-read-a
 shared-slice-read-a c = omega arith

@@ -3,10 +3,10 @@ use mathlib.Core.Path.{_≡_, refl, _∙_}
 use Prim.Native.Nat.{_+_, _-_, _≤_}
 use native.Mathlib.Omega.{arith}
 use lib.ListN.{length}
-use Rattle.output.specs.Sink.{copied}
-use Rattle.output.proofs.Copying.{copied-none, copied-word}
-use Rattle.output.proofs.copy_words.Statement.{statement}
-use Rattle.output.proofs.copy_words.Tie as tie
+use Rattle.copying.specs.Copied.{copied}
+use Rattle.copying.proofs.Copying.{copied-none, copied-word}
+use Rattle.copying.proofs.copy_words.Statement.{statement}
+use Rattle.copying.proofs.copy_words.Tie as tie
 
 abbrev Inv-loop : tie.InvT-loop
 Inv-loop out₀ at text from to i₀ j₀ out i j = (from ≤ i) × (i ≤ to) × (j + from ≡ at + i) × (length out ≡ length out₀) × (out ≡ copied out₀ at text from i)

@@ -1,12 +1,12 @@
 -- A part of a text is copied into a slice eight bytes at a time, and the last eight may lie over some that were copied before. Assumes nothing.
 use mathlib.Core.Path.{_≡_, refl, sym, ap, subst, _∙_}
 use mathlib.Core.List.{List, [], _∷_, _++_, append-assoc}
-use Prim.Native.Nat.{ℕ, zero, suc, _+_, _-_, _≤_, _<_, min}
+use Prim.Native.Nat.{ℕ, zero, suc, _+_, _-_, _≤_, _<_}
 use native.Mathlib.Omega.{arith}
 use native.Mathlib.Numerals.{unary-clauses}
 use lib.ListN.{length, getD, take, drop, set, length-set, length-drop}
 use lib.Seq.{length-take-le, drop-cons, take-append-le, take-append-add, take-take, take-add, drop-drop, sets, sets-eq, paste-zero, length-paste-head, length-paste, drop-paste}
-use Rattle.output.specs.Sink.{part, copied, Room, Wrote, wrote-out, wrote-in}
+use Rattle.copying.specs.Copied.{part, copied}
 
 -- EIGHT BYTES
 -- n elements, each read by itself
@@ -34,22 +34,6 @@ stored-room o at l i n h = subst (λ (k : ℕ). at + suc n < k) (sym (stored-lon
 
 pub copied-eight : (o : List ℕ) (at : ℕ) (l : List ℕ) (i : ℕ) → i + 8 ≤ length l → stored o at l i 7 ≡ sets o at (take 8 (drop i l))
 copied-eight o at l i h = simp unary-clauses (ap (sets o at) (run-is 8 l i h))
-
--- A PART
-part-length : (text : List ℕ) (from to : ℕ) → to ≤ length text → length (part text from to) ≡ to - from
-part-length text from to h = length-take-le (to - from) (drop from text) (omega (arith, length-drop from text))
-
--- a part that ends past the slice's end, and one within it
-module _ {room at to : ℕ} {o : List ℕ} (text : List ℕ) (from : ℕ) (h : Room room o at) (k : to ≤ length text) where
-  pub part-out : {r : ℕ} → r ≡ min (at + (to - from)) (room + 1) → length o < r → Wrote room o o at (part text from to) r
-  part-out e l = wrote-out (part text from to) h (e ∙ ap (λ (n : ℕ). min (at + n) (room + 1)) (sym (part-length text from to k))) l
-
-  pub part-in : {o' : List ℕ} → at + (to - from) ≤ length o → o' ≡ copied o at text from to → length o' ≡ length o → Wrote room o o' at (part text from to) (at + (to - from))
-  part-in l e = wrote-in (part text from to) h (ap (λ (n : ℕ). at + n) (sym (part-length text from to k))) l e
-
-  -- the same, by the part's own length
-  pub part-whole : {o' : List ℕ} → at + (to - from) ≤ length o → o' ≡ take at o ++ part text from to ++ drop (at + length (part text from to)) o → length o' ≡ length o → Wrote room o o' at (part text from to) (at + (to - from))
-  part-whole l e = part-in l (e ∙ ap (λ (n : ℕ). take at o ++ part text from to ++ drop (at + n) o) (part-length text from to k))
 
 -- none copied yet
 pub copied-none : (o : List ℕ) (at : ℕ) (text : List ℕ) (from : ℕ) → o ≡ copied o at text from from
