@@ -1,22 +1,12 @@
 // Appending bytes to a lent slice, measured against room (specs/Sink.antt), which with an empty slice only measures; and storing the bytes of a word in it.
 ghost use mathlib.Core.Path.{_≡_};
 ghost use Prim.Native.Nat.{_+_, _≤_};
-ghost use mathlib.Core.List.{_++_, _∷_, []};
-ghost use lib.ListN.{length, take, drop};
+ghost use mathlib.Core.List.{_∷_, []};
+ghost use lib.ListN.{length};
 ghost use lib.Seq.{sets};
 ghost use Rattle.output.specs.Sink.{part, Room, Wrote, low-bytes};
-
-// Copies bytes into out from at on.
-fn copy(out: &mut [u8], at: usize, bytes: &[u8])
-    requires { ⌜ at + length (now bytes) ≤ length (now out) ⌝ }
-    ensures { λ _. ⌜ now (out .exit) ≡ take at (now (out .entry)) ++ now (bytes .entry) ++ drop (at + length (now (bytes .entry))) (now (out .entry)) ⌝ }
-{
-    let mut i = 0;
-    while i < bytes.len() {
-        out[at + i] = bytes[i];
-        i += 1;
-    }
-}
+use copying::copy;
+use copying::copy_words;
 
 // Appends bytes. Where they do not end within the slice, none of them is looked at.
 pub fn put(out: &mut [u8], at: usize, room: usize, bytes: &[u8]) -> usize
@@ -37,7 +27,7 @@ pub fn put(out: &mut [u8], at: usize, room: usize, bytes: &[u8]) -> usize
     end
 }
 
-// Appends text[from..to].
+// Appends text[from..to], as put does.
 pub fn put_part(
     out: &mut [u8],
     at: usize,
@@ -50,7 +40,22 @@ pub fn put_part(
     requires { ⌜ (from ≤ to) × (to ≤ length (now text)) ⌝ }
     ensures { λ r. ⌜ Wrote room (now (out .entry)) (now (out .exit)) at (part (now (text .entry)) from to) r ⌝ }
 {
-    put(out, at, room, &text[from..to])
+    if room < at {
+        return at;
+    }
+    let len = to - from;
+    if room - at < len {
+        return room + 1;
+    }
+    let end = at + len;
+    if end <= out.len() {
+        if 8 <= len {
+            copy_words(out, at, text, from, to);
+            return end;
+        }
+        copy(out, at, &text[from..to]);
+    }
+    end
 }
 
 // Appends one byte.

@@ -6,8 +6,8 @@ use native.Mathlib.Numerals.{add-one}
 use mathlib.Core.List.{List, _++_}
 use lib.ListN.{length, getD, set, take, drop, length-set}
 use lib.Seq.{paste, paste-zero, paste-suc, take-length}
-use Rattle.output.proofs.copy.Statement.{statement}
-use Rattle.output.proofs.copy.Tie as tie
+use Rattle.copying.proofs.copy.Statement.{statement}
+use Rattle.copying.proofs.copy.Tie as tie
 
 abbrev Inv-loop : tie.InvT-loop
 Inv-loop out₀ at bytes i₀ out i = (i ≤ length bytes) × (length out ≡ length out₀) × (out ≡ paste out₀ at bytes i)
