@@ -7,7 +7,7 @@ use native.Mathlib.Omega.{arith}
 use native.Mathlib.Numerals.{add-one}
 use borrow.Author.Count.{below-more}
 use borrow.Author.Tests.{le-leb, lt-leb, lt-ltb, le-ltb}
-use lib.Dec.{leb}
+use lib.Dec.{leb, ltb}
 use lib.ListN.{length, getD, set, length-append}
 use lib.Seq.{getD-set-same, getD-set-other}
 use Rattle.definition.specs.Base.{Name}
@@ -71,6 +71,15 @@ module _ (n : ℕ) where
   pub count-adds : (ws : ℕ) → 2 ≤ n → ws < 26 → keep-count n ws ≡ suc ws
   unfolding keep-count
   count-adds ws h k = rw (keep-count, le-leb 2 n h, lt-ltb ws 26 k)
+
+  -- by both tests at once
+  pub count-kept : (ws : ℕ) → (leb 2 n && ltb ws 26) ≡ true → keep-count n ws ≡ suc ws
+  unfolding keep-count
+  count-kept ws e = rw (keep-count, e)
+
+  pub count-left : (ws : ℕ) → (leb 2 n && ltb ws 26) ≡ false → keep-count n ws ≡ ws
+  unfolding keep-count
+  count-left ws e = rw (keep-count, e)
 
 -- the table with a word behind its words
 abbrev pub stored : Words → ℕ → ℕ → Words

@@ -151,13 +151,10 @@ fn keep_count(known: usize, start: usize, end: usize) -> usize
     requires { ⌜ start ≤ end ⌝ }
     ensures { λ r. ⌜ (r ≡ C.keep-count (end - start) known) × (known ≤ r) ⌝ }
 {
-    if end - start < 2 {
-        return known;
+    if is_kept(true, known, start, end) {
+        return known + 1;
     }
-    if 26 <= known {
-        return known;
-    }
-    known + 1
+    known
 }
 
 // How many words are known behind text[from..to], whatever bytes it has.
