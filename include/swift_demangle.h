@@ -1,4 +1,4 @@
-/* Cepruvels for C: the calls of the crate `swift_demangle`, as the crates `capi` (reading) and `capi_check` (shape check) export them.
+/* Cepruvels for C: the calls of the crates `swift_demangle` (reading) and `swift_shape` (shape check), as `capi` and `capi_check` export them.
  *
  * `rt staticlib capi` proves the four calls of the reading and writes target/staticlib/libcapi.a (x86-64 Linux), `rt staticlib capi_check` those
  * of the shape check and libcapi_check.a; link the one that has your calls, or both, and nothing else. The calls
