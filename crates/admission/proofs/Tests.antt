@@ -1,15 +1,15 @@
 -- The checks before a run, and what is read of a text. Assumes nothing.
 use mathlib.Core.Path.{_≡_, refl, sym, ap, ap₂, subst, _∙_}
-use mathlib.Core.Bool.{Bool, true, false, _&&_}
-use mathlib.Core.List.{List, []}
+use mathlib.Core.Bool.{Bool, true, false, _&&_, and-false, and-eq-true-iff}
 use mathlib.Core.Option.{Option, some, none}
-use Prim.Native.Nat.{ℕ, zero, suc, _+_, _-_, _*_, _≤_, _<_}
+use Prim.Native.Nat.{ℕ, _-_, _*_, _≤_, _<_}
 use native.Mathlib.Omega.{arith}
 use native.Mathlib.Nat.{le-trans, mul-le-mul-right}
-use lib.Dec.{T, leb, ltb, leb→le, ltb→lt, le→leb, lt→ltb, not-T}
-use lib.ListN.{length, take, drop}
+use lib.Dec.{leb, ltb, leb→le, le→leb, lt→ltb, not-T}
+use lib.ListN.{length}
 use lib.Seq.{take-all, drop-length}
 use Rattle.definition.specs.Base.{given}
+use Rattle.definition.specs.Text as Text
 use Rattle.definition.specs.Text.{Text, Symbol, split, ill-formed}
 use Rattle.definition.specs.Calls as Calls
 use Rattle.definition.specs.Calls.{refusal, good-ceiling, checked, symbol, whole-text}
@@ -20,7 +20,8 @@ use Rattle.definition.proofs.SameText.{passed, failed}
 use Rattle.runs.specs.declared.Final.{Final}
 use Rattle.runs.specs.declared.Final.the-variants as Final
 use Rattle.symbols.specs.Symbol as Symbols
-use Rattle.admission.specs.Admits.{framed, Body, Refused, Frames, Bounds, Admits}
+use Rattle.admission.proofs.Bodies.{body-well-formed}
+use Rattle.admission.specs.Admits.{framed, Body, Refused, Frames, Admits}
 use Rattle.admission.specs.declared.Admitted.{Admitted}
 use Rattle.admission.specs.declared.Admitted.the-variants as Admitted
 
@@ -29,20 +30,27 @@ whole : (t : Text) → whole-text t ≡ Symbols.symbol t 0 (length t)
 whole t = ap₂ {C = Symbol} (λ b s. record { start = 0; body = b; suffix = s }) (sym (take-all (length t - 0) t (omega arith))) (sym (drop-length t))
 
 module _ {what : Final} (t : Text) where
-  pub symbol-parts : (start end : ℕ) → what ≡ Final.Symbol → Symbols.Parts (split t) t start end → Body (framed what t) t start end
-  unfolding symbol
-  symbol-parts start end e h = subst (λ (x : Final). Body (framed x t) t start end) (sym e) (record {
-    is = λ read. ap (λ (o : Option Symbol). given o (refusal 5 0) read) (h .is);
-    order = h .order;
-    inside = h .inside;
-  })
-
   pub symbol-not : what ≡ Final.Symbol → split t ≡ none → Refused (framed what t) Refusal.Prefix 0
   unfolding symbol number
   symbol-not e h = subst (λ (x : Final). Refused (framed x t) Refusal.Prefix 0) (sym e) (record { is = λ read. ap (λ (o : Option Symbol). given o (refusal 5 0) read) h })
 
-  pub type-whole : what ≡ Final.Type → Body (framed what t) t 0 (length t)
-  type-whole e = subst (λ (x : Final). Body (framed x t) t 0 (length t)) (sym e) (record { is = λ read. ap read (whole t); order = omega arith; inside = omega arith })
+  module _ (w : Text.well-formed t ≡ true) where
+    pub symbol-parts : (start end : ℕ) → what ≡ Final.Symbol → Symbols.Parts (split t) t start end → Body (framed what t) t start end
+    unfolding symbol
+    symbol-parts start end e h = subst (λ (x : Final). Body (framed x t) t start end) (sym e) (record {
+      is = λ read. ap (λ (o : Option Symbol). given o (refusal 5 0) read) (h .is);
+      order = h .order;
+      inside = h .inside;
+      encoded = body-well-formed t (h .is) w;
+    })
+
+    pub type-whole : what ≡ Final.Type → Body (framed what t) t 0 (length t)
+    type-whole e = subst (λ (x : Final). Body (framed x t) t 0 (length t)) (sym e) (record {
+      is = λ read. ap read (whole t);
+      order = omega arith;
+      inside = omega arith;
+      encoded = ap Text.well-formed (take-all (length t - 0) t (omega arith)) ∙ w;
+    })
 
 -- 1 to 4, by the outcome of each test
 outcome : (ceiling long short : Bool) → Option ℕ → Calls.Answer → Calls.Answer
@@ -56,13 +64,6 @@ outcome ceiling long short ill rest = elim ceiling [
     ]
   ]
 ]
-
-and-false : (b : Bool) {c : Bool} → c ≡ false → (b && c) ≡ false
-and-false true e = e
-and-false false e = refl
-
-true-and : {b c : Bool} → b ≡ true → c ≡ true → (b && c) ≡ true
-true-and h k = rw (h, k) refl
 
 module _ (what : Final) (need N w : ℕ) (t : Text) where
   abbrev Fails : Refusal → ℕ → Type 0
@@ -85,12 +86,12 @@ module _ (what : Final) (need N w : ℕ) (t : Text) where
 
   pub ceiling-past : 65536 < N → Fails Refusal.Ceiling 0
   unfolding good-ceiling
-  ceiling-past h = no-ceiling (and-false (ltb 0 N) (failed (leb N 65536) (not-T (leb N 65536) (λ q. omega (arith, leb→le N 65536 q, h)))))
+  ceiling-past h = no-ceiling (ap (λ (b : Bool). ltb 0 N && b) (failed (leb N 65536) (not-T (leb N 65536) (λ q. omega (arith, leb→le N 65536 q, h)))) ∙ and-false (ltb 0 N))
 
   module _ (some-nodes : 0 < N) (small : N ≤ 65536) where
     ceiling-is : good-ceiling N ≡ true
     unfolding good-ceiling
-    ceiling-is = true-and (passed (ltb 0 N) (lt→ltb 0 N some-nodes)) (passed (leb N 65536) (le→leb N 65536 small))
+    ceiling-is = and-eq-true-iff (ltb 0 N) (leb N 65536) .1 (passed (ltb 0 N) (lt→ltb 0 N some-nodes), passed (leb N 65536) (le→leb N 65536 small))
 
     pub workspace-short : w < need * N → Fails Refusal.Workspace 0
     unfolding number outcome
@@ -118,7 +119,7 @@ module _ (what : Final) (need N w : ℕ) (t : Text) where
 
         pub well-formed : ill-formed t ≡ none → (r : Admitted) → Frames (framed what t) t r → Admits what need N w t r
         well-formed h (Admitted.Body start end) b = (
-          record { is = λ read. passes h (framed what t read) ∙ b .is read; order = b .order; inside = b .inside },
+          record { is = λ read. passes h (framed what t read) ∙ b .is read; order = b .order; inside = b .inside; encoded = b .encoded },
           record { small = small; long = long; short = short },
         )
         well-formed h (Admitted.Refused r place) b = record { is = λ read. passes h (framed what t read) ∙ b .is read }

@@ -1,8 +1,9 @@
 -- What is read of a text, and what the checks before a run say of the definition's. Assumes nothing.
 use mathlib.Core.Path.{_≡_}
-use Prim.Native.Nat.{ℕ, _*_, _≤_}
-use lib.ListN.{length}
-use Rattle.definition.specs.Text.{Text, Symbol}
+use mathlib.Core.Bool.{true}
+use Prim.Native.Nat.{ℕ, _-_, _*_, _≤_}
+use lib.ListN.{length, take, drop}
+use Rattle.definition.specs.Text.{Text, Symbol, well-formed}
 use Rattle.definition.specs.Calls as Calls
 use Rattle.definition.specs.Calls.{refusal, checked, symbol, whole-text}
 use Rattle.definition.specs.Enums.{number}
@@ -18,11 +19,12 @@ abbrev pub framed : Final → Text → (Symbol → Calls.Answer) → Calls.Answe
 framed Final.Symbol t read = symbol t read
 framed Final.Type t read = read (whole-text t)
 
--- whatever is read next is read of text[start..end]
+-- whatever is read next is read of text[start..end], which is well-formed
 pub record Body (before : (Symbol → Calls.Answer) → Calls.Answer) (t : Text) (start end : ℕ) : Type 0 where
   pub is : (read : Symbol → Calls.Answer) → before read ≡ read (Symbols.symbol t start end)
   pub order : start ≤ end
   pub inside : end ≤ length t
+  pub encoded : well-formed (take (end - start) (drop start t)) ≡ true
 
 -- it is refused, whatever would be read next
 pub record Refused (before : (Symbol → Calls.Answer) → Calls.Answer) (r : Refusal) (place : ℕ) : Type 0 where

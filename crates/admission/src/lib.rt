@@ -1,5 +1,8 @@
 // The checks before a run, 1 to 5 of document 01, and what of the text is read then.
+ghost use mathlib.Core.Path.{_≡_};
+ghost use mathlib.Core.Bool.{true};
 ghost use Prim.Native.Nat.{_≤_};
+ghost use Rattle.definition.specs.Text as Text;
 ghost use Rattle.admission.specs.Admits.{framed, Frames, Admits};
 use budget::Budget;
 use definition::Refusal;
@@ -7,14 +10,15 @@ use runs::Final;
 use symbols::Symbol;
 use utf8::IllFormed;
 
-// The body is text[start..end]; or the text is refused before a run, at a place.
+// The body is text[start..end], and well-formed; or the text is refused before a run, at a place.
 pub enum Admitted {
     Body(usize, usize),
     Refused(Refusal, usize),
 }
 
-// The body of a symbol, or a type's whole text. 5: there is none.
+// The body of a symbol, or a type's whole text, of a text that is well-formed. 5: there is none.
 fn body_of(text: &[u8], what: Final) -> Admitted
+    requires { ⌜ Text.well-formed (now text) ≡ true ⌝ }
     ensures { λ r. ⌜ Frames (framed what (now (text .entry))) (now (text .entry)) r ⌝ }
 {
     match what {

@@ -12,7 +12,7 @@ use Rattle.definition.specs.Calls as Calls
 use Rattle.definition.specs.Calls.{refusal}
 use Rattle.definition.specs.Reading as Reading
 use Rattle.definition.specs.Check as Check
-use Rattle.definition.specs.Alike.{enough, with-text, WholeAlike, JudgedAlike}
+use Rattle.definition.specs.Alike.{enough, with-text, WholeAlike}
 use Rattle.definition.specs.Enums.{values}
 use Rattle.definition.specs.declared.Answer.{Answer}
 use Rattle.definition.proofs.SameText.{passed, same-refl}

@@ -7,7 +7,7 @@ use Prim.Native.Nat.{ℕ, _+_, _-_, _≤_, _<_}
 use native.Mathlib.Omega.{arith}
 use lib.Dec.{T, leb, leb→le, nleb→lt}
 use lib.ListN.{length, take, drop}
-use Rattle.definition.specs.Base.{given}
+use Rattle.definition.specs.Base.{Name, given}
 use Rattle.definition.specs.Text.{Text, suffix-text}
 use Rattle.definition.specs.Node.{Node, kind, entry-of}
 use Rattle.definition.specs.Print.{print}
@@ -23,9 +23,10 @@ use Rattle.definition.specs.declared.Refusal.the-variants as Refusal
 use Rattle.budget.specs.Spent.{budget-of}
 use Rattle.endings.specs.Answers.{Answers, Measured, Stacked}
 use Rattle.endings.proofs.Ends.{answers-is, refused-answers, written-answers, past-answers, stacked-answers, body-end, body-short, ended-ran, ended-stopped}
-use Rattle.naming.specs.Naming.{naming, Known, Some}
+use Rattle.naming.specs.Naming.{noted, names-of, naming, Some}
 use Rattle.nodes.specs.Gives.{nothing-spare}
-use Rattle.records.specs.Holds.{Names, Holds, Ready}
+use Rattle.records.specs.Holds.{Names, Named, Holds, Ready}
+use Rattle.records.specs.Lies.{Lies}
 use Rattle.records.specs.declared.State.{State}
 use Rattle.reading.specs.Runs as R
 use Rattle.reading.specs.declared.Left as Left-end
@@ -38,7 +39,10 @@ use Rattle.runs.specs.declared.Written.{Written}
 use Rattle.printing.specs.Answers.{Shown, Rendered}
 use Rattle.shown_labels.specs.Pieces.{World, Prints}
 use Rattle.symbols.specs.Symbol as Symbols
+use Rattle.words.specs.Table.{table}
 use Rattle.words.specs.declared.Words.{Words}
+use Rattle.read_turns.proofs.MoreWords.{lies-more}
+use Rattle.definition.proofs.WordsAdded.{begins-refl}
 use Rattle.answers.specs.Answers.{Held, Finishes}
 
 -- A TEXT THAT WAS MEASURED AND WRITTEN
@@ -52,25 +56,32 @@ module _ (b : B.Budget) (s out out′ : List ℕ) (r : Answer) where
 
 -- READING
 module _ (what : Final) (body suffix : Text) (end : ℕ) (words : Words) (w : List ℕ) (N : ℕ) (st : State) where
+  -- the machine's names, and the printer's: words that are noted and not in the table are looked for by none
+  abbrev with-all : List Name → Names
+  with-all all = names-of body (noted (table body words) all)
+
+  printed : (x : Node) {p : ℕ} (all : List Name) → Lies (Named (with-all all)) x w p → Prints (naming body words) w p (print x)
+  printed x {p} all l = record { tree = x; lies = lies-more body (noted (table body words) all) (noted (table body words) (table body words)) (begins-refl (table body words)) x w p l; is = refl }
+
   -- what the printer requires of the tree that is left
   pub left-world : (p : ℕ) → Held body words w N st → R.Singles w N st what (Left.At p) → World body words w p
   left-world p h s =
-      let a = s (naming body words) (h .machine) (h .holds) in
+      let a = s (with-all (h .all)) (h .machine) (h .holds) in
       record { known = h .known; long = omega (arith, a .below, h .holds .room, h .holds .charged, h .holds .long) }
 
   pub left-prints : (p : ℕ) → Held body words w N st → R.Singles w N st what (Left.At p) → Some (Prints (naming body words) w p)
   left-prints p h s =
-      let a = s (naming body words) (h .machine) (h .holds) in
-      record { text = print (a .tree); is = record { tree = a .tree; lies = a .lies; is = refl } }
+      let a = s (with-all (h .all)) (h .machine) (h .holds) in
+      record { text = print (a .tree); is = printed (a .tree) (h .all) (a .lies) }
 
   -- its text
   pub finishes-at : (p n : ℕ) (out out′ : List ℕ) (r : Answer) → R.Singles w N st what (Left.At p) → Rendered (naming body words) w p suffix out out′ n → Measured (budget-of (st .budget)) n (length out) r →
       Finishes what body suffix end words w N st out out′ r
   unfolding finished
   finishes-at p n out out′ r s d m = record {
-    each = λ sym₁ mach e q h.
-        let a = s (naming body words) mach h in
-        let shown : Shown (print (a .tree) ++ suffix-text suffix) out out′ n = d .each (print (a .tree)) (record { tree = a .tree; lies = a .lies; is = refl }) in
+    each = λ sym₁ mach all e q h.
+        let a = s (with-all all) mach h in
+        let shown : Shown (print (a .tree) ++ suffix-text suffix) out out′ n = d .each (print (a .tree)) (printed (a .tree) all (a .lies)) in
         let shown₁ : Shown (print (a .tree) ++ suffix-text (sym₁ .suffix)) out out′ n = subst (λ (x : Text). Shown (print (a .tree) ++ suffix-text x) out out′ n) (sym q) shown in
         let m₁ : Measured (mach .budget) n (length out) r = subst (λ (x : B.Budget). Measured x n (length out) r) (h .budget) m in
         answers-is (ap (λ (o : Option Node). within (length out) (given o (refusal 11 (sym₁ .start + length (sym₁ .body))) (λ x. accepted (mach .budget) (print x ++ suffix-text (sym₁ .suffix))))) (a .is))
@@ -80,8 +91,8 @@ module _ (what : Final) (body suffix : Text) (end : ℕ) (words : Words) (w : Li
   pub finishes-not : (out : List ℕ) → R.Singles w N st what Left.Nothing → Finishes what body suffix end words w N st out out (Answer.Refused Refusal.Leftover end)
   unfolding finished number
   finishes-not out s = record {
-    each = λ sym₁ mach e q h.
-        answers-is (ap (λ (o : Option Node). within (length out) (given o (refusal 11 (sym₁ .start + length (sym₁ .body))) (λ x. accepted (mach .budget) (print x ++ suffix-text (sym₁ .suffix))))) (s (naming body words) mach h)
+    each = λ sym₁ mach all e q h.
+        answers-is (ap (λ (o : Option Node). within (length out) (given o (refusal 11 (sym₁ .start + length (sym₁ .body))) (λ x. accepted (mach .budget) (print x ++ suffix-text (sym₁ .suffix))))) (s (with-all all) mach h)
         ∙ ap (λ (k : ℕ). within (length out) (refusal 11 k)) e) (refused-answers out Refusal.Leftover end);
   }
 
@@ -91,17 +102,17 @@ module _ (text : Text) (start end N : ℕ) (w w′ : List ℕ) (words : Words) w
 
   -- a run that ended
   pub ran-held : (k : ℕ) (st : State) → length text ≤ 65535 → R.Ran N k body w w′ words st → Held body words w′ N st
-  ran-held k st h r = record { known = record { short = body-short text start end h; fitting = r .fitting }; machine = r .machine; holds = r .holds }
+  ran-held k st h r = record { known = record { short = body-short text start end h; fitting = r .fitting }; machine = r .machine; all = r .all; holds = r .holds }
 
   pub ran-ready : (k : ℕ) (st : State) → R.Ran N k body w w′ words st → Ready w′ N st nothing-spare
-  ran-ready k st r = record { names = naming body words; machine = r .machine; holds = r .holds }
+  ran-ready k st r = record { names = names-of body (noted (table body words) (r .all)); machine = r .machine; holds = r .holds }
 
   pub read-ran : (what : Final) (st : State) (out out′ : List ℕ) (r : Answer) (suffix : Text) → start ≤ end → end ≤ length text → R.Ran N 4097 body w w′ words st →
       drop end text ≡ suffix → Finishes what body suffix end words w′ N st out out′ r → Answers (within (length out) (Reading.whole N (kinds-of what) (Symbols.symbol text start end))) out out′ r
   unfolding Reading.whole
   read-ran what st out out′ r suffix h k a e f =
       answers-is (ap (within (length out)) (ended-ran text start end (finished kind (kinds-of what) (λ n. print n ++ suffix-text (drop end text)) (Symbols.symbol text start end)) (R.read N 4097 body) (a .machine) (a .is)))
-      (f .each (Symbols.symbol text start end) (a .machine) (body-end text start end h k) e (a .holds))
+      (f .each (Symbols.symbol text start end) (a .machine) (a .all) (body-end text start end h k) e (a .holds))
 
   pub read-stopped : (what : Final) (out : List ℕ) (x : Refusal) (at : ℕ) → R.Stopped N 4097 body w w′ x at →
       Answers (within (length out) (Reading.whole N (kinds-of what) (Symbols.symbol text start end))) out out (Answer.Refused x (start + at))
@@ -117,7 +128,7 @@ module _ (text : Text) (start end N : ℕ) (w w′ : List ℕ) (words : Words) w
   unfolding Reading.stopped-after
   read-k-ran k st out out′ v r a f s =
       answers-is (ap (within (length out)) (ended-ran text start end (λ m. accepted (m .budget) (entry-numbers (map entry-of (reverse (m .stack))))) (R.read N k body) (a .machine) (a .is)))
-      (stacked-answers (a .machine .budget) (entry-numbers (map entry-of (reverse (a .machine .stack)))) out out′ r v (f (naming body words) (a .machine) (a .holds)) (subst (λ (b : B.Budget). Stacked b v r) (a .holds .budget) s))
+      (stacked-answers (a .machine .budget) (entry-numbers (map entry-of (reverse (a .machine .stack)))) out out′ r v (f (names-of body (noted (table body words) (a .all))) (a .machine) (a .holds)) (subst (λ (b : B.Budget). Stacked b v r) (a .holds .budget) s))
 
   pub read-k-stopped : (k : ℕ) (out : List ℕ) (x : Refusal) (at : ℕ) → R.Stopped N k body w w′ x at →
       Answers (within (length out) (Reading.stopped-after N k (Symbols.symbol text start end))) out out (Answer.Refused x (start + at))

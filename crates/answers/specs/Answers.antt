@@ -3,6 +3,7 @@ use mathlib.Core.Path.{_≡_}
 use mathlib.Core.List.{List, _++_}
 use Prim.Native.Nat.{ℕ, _+_}
 use lib.ListN.{length}
+use Rattle.definition.specs.Base.{Name}
 use Rattle.definition.specs.Text.{Text, Symbol, suffix-text}
 use Rattle.definition.specs.Node.{kind}
 use Rattle.definition.specs.Print.{print}
@@ -10,8 +11,9 @@ use Rattle.definition.specs.Perform.{Demangler}
 use Rattle.definition.specs.Calls.{within, finished}
 use Rattle.definition.specs.declared.Answer.{Answer}
 use Rattle.endings.specs.Answers.{Answers}
+use Rattle.words.specs.Table.{table}
 use Rattle.words.specs.declared.Words.{Words}
-use Rattle.naming.specs.Naming.{naming, Known}
+use Rattle.naming.specs.Naming.{noted, names-of, Known}
 use Rattle.nodes.specs.Gives.{nothing-spare}
 use Rattle.records.specs.Holds.{Holds}
 use Rattle.records.specs.declared.State.{State}
@@ -22,9 +24,10 @@ use Rattle.runs.specs.declared.Final.{Final}
 pub record Held (body : Text) (words : Words) (w : List ℕ) (N : ℕ) (st : State) : Type 0 where
   pub known : Known body words
   pub machine : Demangler
-  pub holds : Holds (naming body words) w N st nothing-spare machine
+  pub all : List Name
+  pub holds : Holds (names-of body (noted (table body words) all)) w N st nothing-spare machine
 
 -- the end of a whole reading, whatever machine lies there
 pub record Finishes (what : Final) (body suffix : Text) (end : ℕ) (words : Words) (w : List ℕ) (N : ℕ) (st : State) (out out′ : List ℕ) (r : Answer) : Type 0 where
-  pub each : (s : Symbol) (m : Demangler) → s .start + length (s .body) ≡ end → s .suffix ≡ suffix → Holds (naming body words) w N st nothing-spare m →
+  pub each : (s : Symbol) (m : Demangler) (all : List Name) → s .start + length (s .body) ≡ end → s .suffix ≡ suffix → Holds (names-of body (noted (table body words) all)) w N st nothing-spare m →
       Answers (within (length out) (finished kind (kinds-of what) (λ n. print n ++ suffix-text (s .suffix)) s m)) out out′ r

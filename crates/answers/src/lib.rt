@@ -1,8 +1,11 @@
 // What the reading's run comes to: the answer of a call, once the checks before the run have passed.
-ghost use Prim.Native.Nat.{_*_, _≤_};
-ghost use lib.ListN.{length};
+ghost use mathlib.Core.Path.{_≡_};
+ghost use mathlib.Core.Bool.{true};
+ghost use Prim.Native.Nat.{_-_, _*_, _≤_};
+ghost use lib.ListN.{length, take, drop};
 ghost use Rattle.definition.specs.Calls as Calls;
 ghost use Rattle.definition.specs.Reading as Reading;
+ghost use Rattle.definition.specs.Text as Text;
 ghost use Rattle.endings.specs.Answers.{Answers};
 ghost use Rattle.nodes.specs.Gives.{Beyond};
 ghost use Rattle.runs.specs.Ends.{kinds-of};
@@ -56,7 +59,7 @@ pub fn read_body(
     workspace: &mut [u32],
     out: &mut [u8],
 ) -> Answer
-    requires { ⌜ (start ≤ end) × (end ≤ length (now text)) × (length (now text) ≤ 65535) × (ceiling ≤ 65536) × (64 * ceiling ≤ length (now workspace)) ⌝ }
+    requires { ⌜ (start ≤ end) × (end ≤ length (now text)) × (length (now text) ≤ 65535) × (ceiling ≤ 65536) × (64 * ceiling ≤ length (now workspace)) × (Text.well-formed (take (end - start) (drop start (now text))) ≡ true) ⌝ }
     ensures { λ r. ⌜ Answers (Calls.within (length (now (out .entry))) (Reading.whole ceiling (kinds-of what) (Symbols.symbol (now (text .entry)) start end))) (now (out .entry)) (now (out .exit)) r × Beyond (now (workspace .entry)) (now (workspace .exit)) ceiling ⌝ }
 {
     let body = &text[start..end];
@@ -82,7 +85,7 @@ pub fn read_stopped_body(
     workspace: &mut [u32],
     out: &mut [u32],
 ) -> Answer
-    requires { ⌜ (start ≤ end) × (end ≤ length (now text)) × (length (now text) ≤ 65535) × (ceiling ≤ 65536) × (64 * ceiling ≤ length (now workspace)) ⌝ }
+    requires { ⌜ (start ≤ end) × (end ≤ length (now text)) × (length (now text) ≤ 65535) × (ceiling ≤ 65536) × (64 * ceiling ≤ length (now workspace)) × (Text.well-formed (take (end - start) (drop start (now text))) ≡ true) ⌝ }
     ensures { λ r. ⌜ Answers (Calls.within (length (now (out .entry))) (Reading.stopped-after ceiling k (Symbols.symbol (now (text .entry)) start end))) (now (out .entry)) (now (out .exit)) r × Beyond (now (workspace .entry)) (now (workspace .exit)) ceiling ⌝ }
 {
     let reached = reading::run(&text[start..end], k, workspace, ceiling);

@@ -18,6 +18,7 @@ use Rattle.definition.specs.declared.Answer.the-variants as Answer
 use Rattle.definition.specs.declared.Refusal.{Refusal}
 use Rattle.definition.specs.declared.Refusal.the-variants as Refusal
 use Rattle.budget.specs.Spent.{budget-of}
+use Rattle.check_turns.specs.Turns.{with-words}
 use Rattle.checking.specs.declared.Ended as Check-end
 use Rattle.checking.specs.declared.Ended.the-variants as Checked
 use Rattle.checking.specs.Runs as K
@@ -42,9 +43,9 @@ module _ (text : Text) (start end N : ℕ) (w w′ : List ℕ) where
 
   -- one entry is left, or not
   module _ (what : Final) (st : CheckState) (a : K.Ran N 4097 checked-body w w′ st) where
-    whole-is : Check.whole N (kinds-of what) symbol-of ≡ judge what (machine-of w′ N st)
+    whole-is : Check.whole N (kinds-of what) symbol-of ≡ judge what (machine-of w′ N (with-words (a .words) st))
     unfolding Check.whole
-    whole-is = ended-ran text start end (judge what) (K.check N 4097 checked-body) (machine-of w′ N st) (a .is)
+    whole-is = ended-ran text start end (judge what) (K.check N 4097 checked-body) (machine-of w′ N (with-words (a .words) st)) (a .is)
 
     judged : (o : Option _) → single C.kind-of (kinds-of what) (stack-of w′ (st .depth)) ≡ o →
         Check.whole N (kinds-of what) symbol-of ≡ given o (refusal 11 (start + length checked-body)) (λ e. accepted (budget-of (st .budget)) [])
@@ -77,7 +78,7 @@ module _ (text : Text) (start end N : ℕ) (w w′ : List ℕ) where
       Answers (within (length out) (Check.stopped-after N k symbol-of)) out out′ r
   unfolding Check.stopped-after
   check-k-ran k st out out′ v r a f s =
-      answers-is (ap (within (length out)) (ended-ran text start end (λ m. accepted (m .budget) (entry-numbers (reverse (m .stack)))) (K.check N k checked-body) (machine-of w′ N st) (a .is)))
+      answers-is (ap (within (length out)) (ended-ran text start end (λ m. accepted (m .budget) (entry-numbers (reverse (m .stack)))) (K.check N k checked-body) (machine-of w′ N (with-words (a .words) st)) (a .is)))
       (stacked-answers (budget-of (st .budget)) (entry-numbers (reverse (stack-of w′ (st .depth)))) out out′ r v f s)
 
   pub check-k-stopped : (k : ℕ) (out : List ℕ) (x : Refusal) (at : ℕ) → K.Stopped N k checked-body w w′ x at →

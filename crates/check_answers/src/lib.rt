@@ -1,10 +1,12 @@
 // What the check's run comes to: the answer of a call, once the checks before the run have passed.
 ghost use mathlib.Core.Path.{_≡_};
-ghost use Prim.Native.Nat.{_*_, _≤_};
-ghost use lib.ListN.{length};
+ghost use mathlib.Core.Bool.{true};
+ghost use Prim.Native.Nat.{_-_, _*_, _≤_};
+ghost use lib.ListN.{length, take, drop};
 ghost use Rattle.definition.specs.Calls as Calls;
 ghost use Rattle.definition.specs.Check as Check;
 ghost use Rattle.definition.specs.Enums as Enums;
+ghost use Rattle.definition.specs.Text as Text;
 ghost use Rattle.endings.specs.Answers.{Answers};
 ghost use Rattle.runs.specs.Ends.{kinds-of};
 ghost use Rattle.stores.specs.Stores.{Outside};
@@ -25,7 +27,7 @@ pub fn check_body(
     ceiling: usize,
     workspace: &mut [u32],
 ) -> Answer
-    requires { ⌜ (start ≤ end) × (end ≤ length (now text)) × (length (now text) ≤ 65535) × (ceiling ≤ 65536) × (8 * ceiling ≤ length (now workspace)) ⌝ }
+    requires { ⌜ (start ≤ end) × (end ≤ length (now text)) × (length (now text) ≤ 65535) × (ceiling ≤ 65536) × (8 * ceiling ≤ length (now workspace)) × (Text.well-formed (take (end - start) (drop start (now text))) ≡ true) ⌝ }
     ensures { λ r. ⌜ (Enums.values r ≡ Check.whole ceiling (kinds-of what) (Symbols.symbol (now (text .entry)) start end) .values) × Outside ceiling (now (workspace .entry)) (now (workspace .exit)) ⌝ }
 {
     match checking::run(&text[start..end], 4097, workspace, ceiling) {
@@ -50,7 +52,7 @@ pub fn check_stopped_body(
     workspace: &mut [u32],
     out: &mut [u32],
 ) -> Answer
-    requires { ⌜ (start ≤ end) × (end ≤ length (now text)) × (length (now text) ≤ 65535) × (ceiling ≤ 65536) × (8 * ceiling ≤ length (now workspace)) ⌝ }
+    requires { ⌜ (start ≤ end) × (end ≤ length (now text)) × (length (now text) ≤ 65535) × (ceiling ≤ 65536) × (8 * ceiling ≤ length (now workspace)) × (Text.well-formed (take (end - start) (drop start (now text))) ≡ true) ⌝ }
     ensures { λ r. ⌜ Answers (Calls.within (length (now (out .entry))) (Check.stopped-after ceiling k (Symbols.symbol (now (text .entry)) start end))) (now (out .entry)) (now (out .exit)) r × Outside ceiling (now (workspace .entry)) (now (workspace .exit)) ⌝ }
 {
     match checking::run(&text[start..end], k, workspace, ceiling) {

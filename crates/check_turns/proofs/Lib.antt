@@ -2,3 +2,4 @@ pub mod Answers
 pub mod ChainSteps
 pub mod OneOperator
 pub mod TurnSteps
+pub mod PlainName

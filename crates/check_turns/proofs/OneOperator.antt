@@ -49,7 +49,7 @@ module _ (N : ℕ) where
   begins-other b t e = rw (e, Ch.one)
 
   module _ (text : Text) (at : ℕ) (h : at < length text) where
-    one-name : digit (getD text at 0) ≡ true → (m : Shapes) → Ch.one N (drop at text) m ≡ then-run (Ch.identifier (m .words) (drop at text)) (λ x. Ch.name N (x .words)) m
+    pub one-name : digit (getD text at 0) ≡ true → (m : Shapes) → Ch.one N (drop at text) m ≡ then-run (Ch.identifier (m .words) (drop at text)) (λ x. Ch.name N (x .words)) m
     one-name e m =
         ap (λ (t : Text). Ch.one N t m) (front text at h) ∙ (begins-digit (getD text at 0) (drop (at + 1) text) e m
         ∙ ap (λ (t : Text). then-run (Ch.identifier (m .words) t) (λ x. Ch.name N (x .words)) m) (sym (front text at h)))

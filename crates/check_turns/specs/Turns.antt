@@ -1,17 +1,22 @@
 -- What the answers of a turn over a workspace say of the definition's check.
 use mathlib.Core.Path.{_≡_}
 use mathlib.Core.List.{List}
-use Prim.Native.Nat.{ℕ, _-_, _≤_, _<_}
+use Prim.Native.Nat.{ℕ, _≤_, _<_}
 use lib.ListN.{length, drop}
-use Rattle.definition.specs.Base.{Out, ok, refused, Done}
+use Rattle.definition.specs.Base.{Out, ok, refused, Done, _>>_}
+use Rattle.definition.specs.Budget as B
 use Rattle.definition.specs.Text.{Text}
 use Rattle.definition.specs.Operators as Op
 use Rattle.definition.specs.Shape as C
 use Rattle.definition.specs.Shape.{Check}
-use Rattle.definition.specs.Calls.{then-run}
+use Rattle.definition.specs.Calls.{then-run, turn}
+use Rattle.definition.specs.Check as Ch
 use Rattle.definition.specs.Enums.{number}
 use Rattle.definition.specs.declared.Refusal.{Refusal}
+use Rattle.budget.specs.Spent.{budget-of}
+use Rattle.budget.specs.declared.Budget.{Budget}
 use Rattle.text.specs.declared.Cursor.{Cursor}
+use Rattle.words.specs.Table.{part}
 use Rattle.entries.specs.Lies.{machine-of}
 use Rattle.entries.specs.declared.State.{State}
 use Rattle.substitutions.specs.Chain.{chain, outcome}
@@ -21,6 +26,10 @@ use Rattle.check_turns.specs.declared.Turned.{Turned}
 use Rattle.check_turns.specs.declared.Turned.the-variants as Turned
 use Rattle.check_turns.specs.declared.Letter.{Letter}
 use Rattle.check_turns.specs.declared.Letter.the-variants as Letter
+use Rattle.check_turns.specs.declared.Begun.{Begun}
+use Rattle.check_turns.specs.declared.Begun.the-variants as Begun
+use Rattle.check_turns.specs.declared.PlainTurned.{PlainTurned}
+use Rattle.check_turns.specs.declared.PlainTurned.the-variants as PlainTurned
 
 -- the step comes to the text from c on, and to the machine of u in the workspace w₁, which fits what is charged
 pub record Reaches (f : Check Text) (N : ℕ) (text : Text) (w w₁ : List ℕ) (st u : State) (c : Cursor) : Type 0 where
@@ -67,3 +76,40 @@ pub record Did (f : Check Done) (N : ℕ) (w w₁ : List ℕ) (st : State) (next
 abbrev pub Performed : Check Done → (N : ℕ) → (w w₁ : List ℕ) → State → Cursor → Turned → Type 0
 Performed f N w w₁ st next (Turned.To u c) = Did f N w w₁ st next u c
 Performed f N w w₁ st next (Turned.Refused r) = Failed f N w w₁ st r
+
+-- A TURN'S BEGINNING
+-- the state with another budget
+abbrev pub with-budget : Budget → State → State
+with-budget b st = record { budget = b; depth = st .depth; seen = st .seen; words = st .words }
+
+-- a step and a charge of 1 come to the budget of u, and the rest of the state is as it was
+pub record Charged (N : ℕ) (st u : State) : Type 0 where
+  pub is : (B.step >> B.charge N 1) (budget-of (st .budget)) ≡ ok tt (budget-of (u .budget))
+  pub rest : u ≡ with-budget (u .budget) st
+
+abbrev pub Begins : (N : ℕ) → State → Begun → Type 0
+Begins N st (Begun.Next u) = Charged N st u
+Begins N st (Begun.Refused r) = (B.step >> B.charge N 1) (budget-of (st .budget)) ≡ refused (number r)
+
+-- A NAME OF ONE LITERAL, whose words are not counted
+-- the state with another number of words
+abbrev pub with-words : ℕ → State → State
+with-words v st = record { budget = st .budget; depth = st .depth; seen = st .seen; words = v }
+
+-- However many words are known before the name, the turn comes to the text behind the literal text[from..], and those of the literal are
+-- counted to them; the state has the words that it had
+pub record PlainReaches (N : ℕ) (text : Text) (at : ℕ) (w w₁ : List ℕ) (st u : State) (from : ℕ) (c : Cursor) : Type 0 where
+  pub is : (v : ℕ) → turn N (Ch.one N) (drop at text) (machine-of w N (with-words v st)) ≡ ok (drop (c .at) text) (machine-of w₁ N (with-words (Ch.count-words-from 0 0 (part text from (c .at)) v) u))
+  pub words : u .words ≡ st .words
+  pub some : from < c .at
+  pub inside : c .at ≤ length text
+  pub sound : Sound 0 N w₁ u
+  pub outside : Outside N w w₁
+
+pub record PlainRefuses (N : ℕ) (text : Text) (at : ℕ) (w w₁ : List ℕ) (st : State) (r : Refusal) : Type 0 where
+  pub is : (v : ℕ) → turn N (Ch.one N) (drop at text) (machine-of w N (with-words v st)) ≡ refused (number r)
+  pub outside : Outside N w w₁
+
+abbrev pub PlainTurning : (N : ℕ) → Text → (at : ℕ) → (w w₁ : List ℕ) → State → PlainTurned → Type 0
+PlainTurning N text at w w₁ st (PlainTurned.To u from c) = PlainReaches N text at w w₁ st u from c
+PlainTurning N text at w w₁ st (PlainTurned.Refused r) = PlainRefuses N text at w w₁ st r

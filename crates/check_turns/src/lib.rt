@@ -1,19 +1,24 @@
 // One turn of the shape check's run: an operator's letters are read and performed.
+ghost use mathlib.Core.Path.{_≡_};
+ghost use mathlib.Core.Bool.{true, false};
 ghost use Prim.Native.Nat.{_≤_, _<_};
-ghost use lib.ListN.{length, drop};
+ghost use lib.ListN.{length, getD, drop};
+ghost use Rattle.definition.specs.Base.{is, digit};
 ghost use Rattle.definition.specs.Calls as Calls;
 ghost use Rattle.definition.specs.Check as Ch;
 ghost use Rattle.definition.specs.Enums as Enums;
 ghost use Rattle.definition.specs.Shape as C;
+ghost use Rattle.definition.specs.Text as Text;
 ghost use Rattle.substitutions.specs.Chain.{chain, outcome};
 ghost use Rattle.fixed_names.specs.Fixed.{fixed};
 ghost use Rattle.shape.specs.Performs.{Sound};
-ghost use Rattle.check_turns.specs.Turns.{performs, Letters, Performed, Turning};
+ghost use Rattle.check_turns.specs.Turns.{performs, Letters, Performed, Turning, Begins, PlainTurning};
 use budget::Spent;
 use definition::Operator;
 use definition::Refusal;
 use entries::State;
 use identifiers::CountRead;
+use identifiers::Extent;
 use letters::OperatorRead;
 use stores::Step;
 use substitutions::SubstitutionRead;
@@ -29,6 +34,18 @@ pub enum Turned {
 pub enum Letter {
     More(State, Cursor),
     Last(State, Cursor),
+    Refused(Refusal),
+}
+
+// A turn has begun: its step is counted and its node charged.
+enum Begun {
+    Next(State),
+    Refused(Refusal),
+}
+
+// The state after a name of one literal, where the literal starts, and the cursor behind it; or its refusal.
+pub enum PlainTurned {
+    To(State, usize, Cursor),
     Refused(Refusal),
 }
 
@@ -80,7 +97,7 @@ fn substitutions(text: &[u8], from: Cursor, ws: &mut [u32], ceiling: usize, st: 
 
 // A name, whose identifier begins at the cursor.
 fn named(text: &[u8], c: Cursor, ws: &mut [u32], ceiling: usize, st: State) -> Turned
-    requires { ⌜ Sound 1 ceiling (now ws) st × (c .at ≤ length (now text)) × (length (now text) ≤ 65535) ⌝ }
+    requires { ⌜ Sound 1 ceiling (now ws) st × (c .at ≤ length (now text)) × (length (now text) ≤ 65535) × (Text.well-formed (now text) ≡ true) ⌝ }
     ensures { λ r. ⌜ Turning (Calls.then-run (Ch.identifier (st .words) (drop (c .at) (now (text .entry)))) (λ x. Ch.name ceiling (x .words))) ceiling (now (text .entry)) (now (ws .entry)) (now (ws .exit)) st r ⌝ }
 {
     let known = st.words;
@@ -101,14 +118,11 @@ fn performed(ws: &mut [u32], ceiling: usize, st: State, op: Operator, next: Curs
     }
 }
 
-// The operator that begins at the cursor.
-fn one(text: &[u8], c: Cursor, ws: &mut [u32], ceiling: usize, st: State) -> Turned
-    requires { ⌜ Sound 1 ceiling (now ws) st × (c .at < length (now text)) × (length (now text) ≤ 65535) ⌝ }
+// The operator that begins at the cursor, where no digit stands.
+fn operated(text: &[u8], c: Cursor, ws: &mut [u32], ceiling: usize, st: State) -> Turned
+    requires { ⌜ Sound 1 ceiling (now ws) st × (c .at < length (now text)) × (digit (getD (now text) (c .at) 0) ≡ false) ⌝ }
     ensures { λ r. ⌜ Turning (Ch.one ceiling (drop (c .at) (now (text .entry)))) ceiling (now (text .entry)) (now (ws .entry)) (now (ws .exit)) st r ⌝ }
 {
-    if text::peek_is_digit(text, c) {
-        return named(text, c, ws, ceiling, st);
-    }
     match operators::operator(text, c) {
         OperatorRead::Read(op, next) => performed(ws, ceiling, st, op, next),
         OperatorRead::Substitutions(next) => substitutions(text, next, ws, ceiling, st),
@@ -116,25 +130,64 @@ fn one(text: &[u8], c: Cursor, ws: &mut [u32], ceiling: usize, st: State) -> Tur
     }
 }
 
-// One turn of `run`: a step, a charge of 1, an operator.
-pub fn turn(text: &[u8], c: Cursor, ws: &mut [u32], ceiling: usize, st: State) -> Turned
-    requires { ⌜ Sound 0 ceiling (now ws) st × (c .at < length (now text)) × (length (now text) ≤ 65535) ⌝ }
-    ensures { λ r. ⌜ Turning (Calls.turn ceiling (Ch.one ceiling) (drop (c .at) (now (text .entry)))) ceiling (now (text .entry)) (now (ws .entry)) (now (ws .exit)) st r ⌝ }
+// A turn begins: a step, and a charge of 1.
+fn begin(ceiling: usize, st: State) -> Begun
+    ensures { λ r. ⌜ Begins ceiling st r ⌝ }
 {
     let budget = st.budget;
     match budget.step() {
         Spent::Left(stepped) => match stepped.charge(ceiling, 1) {
-            Spent::Left(charged) => {
-                let next = State {
-                    budget: charged,
-                    depth: st.depth,
-                    seen: st.seen,
-                    words: st.words,
-                };
-                one(text, c, ws, ceiling, next)
-            }
-            Spent::Refused(r) => Turned::Refused(r),
+            Spent::Left(charged) => Begun::Next(State {
+                budget: charged,
+                depth: st.depth,
+                seen: st.seen,
+                words: st.words,
+            }),
+            Spent::Refused(r) => Begun::Refused(r),
         },
-        Spent::Refused(r) => Turned::Refused(r),
+        Spent::Refused(r) => Begun::Refused(r),
+    }
+}
+
+// One turn of `run` where no digit stands.
+pub fn turn(text: &[u8], c: Cursor, ws: &mut [u32], ceiling: usize, st: State) -> Turned
+    requires { ⌜ Sound 0 ceiling (now ws) st × (c .at < length (now text)) × (digit (getD (now text) (c .at) 0) ≡ false) ⌝ }
+    ensures { λ r. ⌜ Turning (Calls.turn ceiling (Ch.one ceiling) (drop (c .at) (now (text .entry)))) ceiling (now (text .entry)) (now (ws .entry)) (now (ws .exit)) st r ⌝ }
+{
+    match begin(ceiling, st) {
+        Begun::Next(u) => operated(text, c, ws, ceiling, u),
+        Begun::Refused(r) => Turned::Refused(r),
+    }
+}
+
+// One turn of `run` where a digit stands: a name.
+pub fn name_turn(text: &[u8], c: Cursor, ws: &mut [u32], ceiling: usize, st: State) -> Turned
+    requires { ⌜ Sound 0 ceiling (now ws) st × (c .at < length (now text)) × (digit (getD (now text) (c .at) 0) ≡ true) × (length (now text) ≤ 65535) × (Text.well-formed (now text) ≡ true) ⌝ }
+    ensures { λ r. ⌜ Turning (Calls.turn ceiling (Ch.one ceiling) (drop (c .at) (now (text .entry)))) ceiling (now (text .entry)) (now (ws .entry)) (now (ws .exit)) st r ⌝ }
+{
+    match begin(ceiling, st) {
+        Begun::Next(u) => named(text, c, ws, ceiling, u),
+        Begun::Refused(r) => Turned::Refused(r),
+    }
+}
+
+// One turn of `run` where a digit stands that is no `0`: a name of one literal, whose words are not counted.
+pub fn plain_turn(text: &[u8], c: Cursor, ws: &mut [u32], ceiling: usize, st: State) -> PlainTurned
+    requires { ⌜ Sound 0 ceiling (now ws) st × (c .at < length (now text)) × (digit (getD (now text) (c .at) 0) ≡ true) × (is "0" (getD (now text) (c .at) 0) ≡ false) × (Text.well-formed (now text) ≡ true) ⌝ }
+    ensures { λ r. ⌜ PlainTurning ceiling (now (text .entry)) (c .at) (now (ws .entry)) (now (ws .exit)) st r ⌝ }
+{
+    match begin(ceiling, st) {
+        Begun::Next(u) => {
+            let known = u.words;
+            match identifiers::literal(text, c, false) {
+                Extent::Read(from, to) => PlainTurned::To(
+                    shape::name(ws, ceiling, u, known),
+                    from,
+                    Cursor { at: to },
+                ),
+                Extent::Refused(f) => PlainTurned::Refused(f),
+            }
+        }
+        Begun::Refused(r) => PlainTurned::Refused(r),
     }
 }

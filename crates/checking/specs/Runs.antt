@@ -14,6 +14,7 @@ use Rattle.entries.specs.Lies.{machine-of}
 use Rattle.entries.specs.declared.State.{State}
 use Rattle.stores.specs.Stores.{Outside}
 use Rattle.shape.specs.Performs.{Sound}
+use Rattle.check_turns.specs.Turns.{with-words}
 use Rattle.checking.specs.declared.Ended.{Ended}
 use Rattle.checking.specs.declared.Ended.the-variants as Ended
 
@@ -22,8 +23,10 @@ use Rattle.checking.specs.declared.Ended.the-variants as Ended
 abbrev pub check : (N k : ℕ) → Text → End Shapes
 check N k body = turns (turn N (Ch.one N)) k body (fresh 0)
 
+-- the machine of u, but for its words
 pub record Ran (N k : ℕ) (body : Text) (w w₁ : List ℕ) (u : State) : Type 0 where
-  pub is : check N k body ≡ ran (machine-of w₁ N u)
+  pub words : ℕ
+  pub is : check N k body ≡ ran (machine-of w₁ N (with-words words u))
   pub sound : Sound 0 N w₁ u
   pub outside : Outside N w w₁
 

@@ -1,22 +1,30 @@
 // The shape check's run, one turn after another, and what its end comes to.
 ghost use mathlib.Core.Path.{_≡_};
+ghost use mathlib.Core.Bool.{true};
 ghost use mathlib.Core.List.{reverse};
 ghost use Prim.Native.Nat.{_*_, _≤_, _<_};
 ghost use lib.ListN.{length};
 ghost use Rattle.definition.specs.Base.{is-some};
 ghost use Rattle.definition.specs.Calls as Calls;
 ghost use Rattle.definition.specs.Shape as C;
+ghost use Rattle.definition.specs.Text as Text;
 ghost use Rattle.entries.specs.Lies.{stack-of};
 ghost use Rattle.checking.specs.Runs.{Ending};
 ghost use Rattle.runs.specs.Ends.{kinds-of, Writing};
 use budget::Budget;
+use check_turns::PlainTurned;
 use check_turns::Turned;
+use check_turns::name_turn;
+use check_turns::plain_turn;
 use check_turns::turn;
 use definition::Refusal;
 use entries::State;
 use runs::Final;
 use runs::Written;
 use text::Cursor;
+use waiting::Waiting;
+use waiting::count_waiting;
+use waiting::wait;
 
 // The state at a run's end; or the refusal, and where in the body the operator began that is refused.
 pub enum Ended {
@@ -26,9 +34,10 @@ pub enum Ended {
 
 // Runs
 
-// `run` by its turns: k of them, or fewer if the body ends. It starts afresh, whatever the workspace holds.
+// `run` by its turns: k of them, or fewer if the body ends. It starts afresh, whatever the workspace holds. The words of a literal are
+// counted only before an identifier that begins with `0`, or where 16 literals wait: of the state that a run ends with, the words say nothing.
 pub fn run(body: &[u8], k: usize, ws: &mut [u32], ceiling: usize) -> Ended
-    requires { ⌜ (8 * ceiling ≤ length (now ws)) × (ceiling ≤ 65536) × (length (now body) ≤ 65535) ⌝ }
+    requires { ⌜ (8 * ceiling ≤ length (now ws)) × (ceiling ≤ 65536) × (length (now body) ≤ 65535) × (Text.well-formed (now body) ≡ true) ⌝ }
     ensures { λ r. ⌜ Ending ceiling k (now (body .entry)) (now (ws .entry)) (now (ws .exit)) r ⌝ }
 {
     let mut st = State {
@@ -37,6 +46,7 @@ pub fn run(body: &[u8], k: usize, ws: &mut [u32], ceiling: usize) -> Ended
         seen: 0,
         words: 0,
     };
+    let mut waiting = Waiting::new();
     let mut c = Cursor { at: 0 };
     let mut i = 0;
     while i < k {
@@ -44,16 +54,49 @@ pub fn run(body: &[u8], k: usize, ws: &mut [u32], ceiling: usize) -> Ended
         if body.len() <= at {
             return Ended::Ran(st);
         }
-        match turn(body, c, ws, ceiling, st) {
-            Turned::To(u, next) => {
-                st = u;
-                c = next;
+        let b = body[at];
+        if text::is_digit(b) {
+            let held = waiting.count;
+            if (b == b'0') | (held == 16) {
+                let mut counted = st;
+                counted.words = count_waiting(body, waiting, st.words);
+                waiting = Waiting::new();
+                match name_turn(body, c, ws, ceiling, counted) {
+                    Turned::To(u, next) => {
+                        st = u;
+                        c = next;
+                        i += 1;
+                    }
+                    Turned::Refused(r) => {
+                        return Ended::Stopped(r, at);
+                    }
+                }
+            } else {
+                match plain_turn(body, c, ws, ceiling, st) {
+                    PlainTurned::To(u, from, next) => {
+                        let to = next.at;
+                        waiting = wait(waiting, from, to);
+                        st = u;
+                        c = next;
+                        i += 1;
+                    }
+                    PlainTurned::Refused(r) => {
+                        return Ended::Stopped(r, at);
+                    }
+                }
             }
-            Turned::Refused(r) => {
-                return Ended::Stopped(r, at);
+        } else {
+            match turn(body, c, ws, ceiling, st) {
+                Turned::To(u, next) => {
+                    st = u;
+                    c = next;
+                    i += 1;
+                }
+                Turned::Refused(r) => {
+                    return Ended::Stopped(r, at);
+                }
             }
         }
-        i += 1;
     }
     Ended::Ran(st)
 }

@@ -1,16 +1,13 @@
 -- Copies of a tree: so many pushes of its place, and the charge before them.
 use mathlib.Core.Path.{_≡_, refl, sym, ap, _∙_, subst}
-use mathlib.Core.Bool.{Bool, true, false}
 use mathlib.Core.List.{List, [], _∷_, _++_}
-use mathlib.Core.Option.{Option, some, none}
-use Prim.Native.Nat.{ℕ, zero, suc, _+_, _-_, _*_, _^_, _≤_, _<_}
+use mathlib.Core.Option.{some, none}
+use Prim.Native.Nat.{ℕ, zero, suc, _+_, _*_, _≤_, _<_}
 use native.Mathlib.Omega.{arith}
-use native.Mathlib.Numerals.{add-one}
 use native.Mathlib.Nat.{mul-suc, add-comm}
 use Rattle.budget.proofs.Charging.{charge-room, charged-to, copies-le}
-use lib.Dec.{leb}
-use lib.ListN.{length, getD, replicate, getElem?}
-use Rattle.definition.specs.Base.{Out, ok, refused, Done, if_then_else_, given, and-then}
+use lib.ListN.{getD, replicate, getElem?}
+use Rattle.definition.specs.Base.{ok, refused, Done}
 use Rattle.definition.specs.Enums.{number}
 use Rattle.definition.specs.Node.{Node, size}
 use Rattle.definition.specs.Budget as B
@@ -23,9 +20,9 @@ use Rattle.definition.specs.declared.Refusal.the-variants as Refusal
 use Rattle.budget.specs.Spent.{budget-of}
 use Rattle.budget.specs.declared.Budget.{Budget}
 use Rattle.records.specs.Lies.{at, Lies}
-use Rattle.records.specs.Holds.{Names, Named, Spare, Inside, Holds, Ready, Queue, Keeps, Pushed, for-push}
+use Rattle.records.specs.Holds.{Names, Named, Spare, Inside, Holds, Ready, Queue, Pushed, for-push}
 use Rattle.records.specs.declared.State.{State}
-use Rattle.nodes.specs.Gives.{spare, nothing-spare, Beyond}
+use Rattle.nodes.specs.Gives.{nothing-spare}
 use Rattle.nodes.specs.declared.Step.{Step}
 use Rattle.nodes.specs.declared.Step.the-variants as Step
 use Rattle.nodes.proofs.ByKind.{positive}

@@ -1,16 +1,16 @@
 -- The nodes of leaves, and what is done with them.
 use mathlib.Core.Path.{_≡_, refl, sym, ap, _∙_, subst}
 use mathlib.Core.List.{List, [], _∷_, _++_}
-use Prim.Native.Nat.{ℕ, suc, _+_, _-_, _*_, _^_, _≤_, _<_}
+use Prim.Native.Nat.{ℕ, _+_, _≤_, _<_}
 use Prim.Native.String.{String}
 use native.Mathlib.Omega.{arith}
-use lib.ListN.{length, getD}
-use Rattle.definition.specs.Base.{bytes, ok, refused, and-then}
+use lib.ListN.{getD}
+use Rattle.definition.specs.Base.{bytes, refused}
 use Rattle.definition.specs.Enums as Enums
 use Rattle.definition.specs.Enums.{number}
 use Rattle.definition.specs.Node as Nodes
-use Rattle.definition.specs.Node.{NominalKind, Node, Module, Nominal, EmptyList, FirstElementMarker, VariadicMarker, Throws, Async, BoundGeneric, nil, cons, kind, nominal-kind, size, sizes, many, count, view}
-use mathlib.Core.Option.{some, none}
+use Rattle.definition.specs.Node.{NominalKind, Node, Module, Nominal, EmptyList, FirstElementMarker, VariadicMarker, Throws, Async, kind, nominal-kind, size, sizes, many, count, view}
+use mathlib.Core.Option.{some}
 use Rattle.definition.specs.Machine as M
 use Rattle.definition.specs.Machine.{machine, restack}
 use Rattle.definition.specs.Perform as R
@@ -23,14 +23,13 @@ use Rattle.definition.specs.declared.NominalKind.the-variants as NKs
 use Rattle.definition.specs.declared.Param.{Param}
 use Rattle.definition.specs.declared.Refusal.the-variants as Refusal
 use Rattle.records.specs.Lies.{at, Lies, Would}
-use Rattle.records.specs.Holds.{Fixed, Names, Named, weight, Spare, Inside, Holds, Ready, Keeps, Grew, Pushed, Remembered, for-record, for-push, for-keeping}
+use Rattle.records.specs.Holds.{Fixed, Names, Named, Spare, Holds, Ready, Keeps, Grew, Pushed, Remembered, for-record, for-push, for-keeping}
 use Rattle.records.specs.declared.State.{State}
-use Rattle.nodes.specs.Gives.{spare, nothing-spare, full-spare, taken, Makes, Given, Gives, Performed, Operates, Beyond, WrapsTo}
+use Rattle.nodes.specs.Gives.{spare, nothing-spare, full-spare, taken, Makes, Given, Gives, Operates, Beyond, WrapsTo}
 use Rattle.nodes.specs.declared.Placed.{Placed}
 use Rattle.nodes.specs.declared.Step.{Step}
 use Rattle.nodes.specs.declared.Step.the-variants as Step
-use Rattle.nodes.proofs.ByKind.{positive}
-use Rattle.nodes.proofs.Taking.{less-spare, beyond-itself}
+use Rattle.nodes.proofs.Taking.{less-spare}
 use Rattle.nodes.proofs.Leaving.{keeps-then, beyond-then}
 use Rattle.copies.specs.Copying.{for-optional, optional-copies, ReadyTree, Went, Copied, Optioned}
 

@@ -1,16 +1,16 @@
 -- What code says that copies a tree.
 use mathlib.Core.Path.{_≡_}
-use mathlib.Core.List.{List, [], _∷_, _++_}
-use Prim.Native.Nat.{ℕ, _+_, _*_, _^_, _≤_, _<_}
-use lib.ListN.{length, getD, replicate}
-use Rattle.definition.specs.Base.{ok, refused, Done, and-then, _>>=_, _>>_}
+use mathlib.Core.List.{List, _++_}
+use Prim.Native.Nat.{ℕ, _+_, _*_, _<_}
+use lib.ListN.{replicate}
+use Rattle.definition.specs.Base.{ok, refused, Done, _>>=_, _>>_}
 use Rattle.definition.specs.Enums.{number}
 use Rattle.definition.specs.Node.{Node, size}
 use Rattle.definition.specs.Machine as M
 use Rattle.definition.specs.Machine.{restack}
 use Rattle.definition.specs.Perform as R
 use Rattle.definition.specs.Perform.{Demangler, Run}
-use Rattle.records.specs.Lies.{at, Lies}
+use Rattle.records.specs.Lies.{Lies}
 use Rattle.records.specs.Holds.{Fixed, Names, Named, Spare, Holds, Keeps}
 use Rattle.records.specs.declared.State.{State}
 use Rattle.nodes.specs.Gives.{spare, Beyond}

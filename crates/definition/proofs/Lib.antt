@@ -5,6 +5,7 @@ pub mod PrintEquations
 pub mod OnlySwift
 pub mod ParamNames
 pub mod WordsAdded
+pub mod WordsApart
 pub mod Simulation
 pub mod OperatorsAlike
 pub mod WordsAlike

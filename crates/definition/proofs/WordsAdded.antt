@@ -10,7 +10,7 @@ use native.Mathlib.Omega.{arith}
 use lib.Dec.{T, eqb, ltb, leb, leb→le, ltb→lt}
 use lib.ListN.{length, length-append, getElem?}
 use Rattle.definition.specs.Base.{Name, if_then_else_, given, is-some, is, digit, upper, Out, ok, refused, Step, Done, ret, refuse, unless, and-then, _>>=_, _>>_, Late, good, bad, judge}
-use Rattle.definition.specs.Text.{Text, Lex, Param, next-if}
+use Rattle.definition.specs.Text.{Text, Lex, Param, peek, next-if}
 use Rattle.definition.specs.Words.{most-words, keep, starts, note-words-from, note-words, spelled, word-letters, literal, Identified, identified, identifier-from, is-empty, identifier}
 use Rattle.definition.specs.Kind as K
 use Rattle.definition.specs.Node.{NominalKind, Node, Nodes, InOut, Metatype, kind, count}
@@ -36,6 +36,10 @@ begins-refl ws = record { more = []; all = sym (append-nil ws) }
 
 pub begins-trans : {us vs ws : List Name} → Begins us vs → Begins vs ws → Begins us ws
 begins-trans {us} {vs} {ws} a b = record { more = a .more ++ b .more; all = b .all ∙ ap (λ x. x ++ b .more) (a .all) ∙ append-assoc us (a .more) (b .more) }
+
+-- An identifier that begins with `0` may have looked for words: those known after it begin vs. Another looked for none (lines 789 to 797)
+abbrev pub Looked : Text → (ws vs : List Name) → Type 0
+Looked t ws vs = peek (is "0") t ≡ true → Begins ws vs
 
 found-append : (ws more : List Name) (i : ℕ) (w : Name) → getElem? ws i ≡ some w → getElem? (ws ++ more) i ≡ some w
 found-append [] more i w e = let z : _≡_ {A = ℕ} 0 1 = cc in absurd (omega arith)

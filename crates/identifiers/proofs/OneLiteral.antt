@@ -1,14 +1,19 @@
 -- An identifier that does not begin with `0` is one literal. Assumes nothing.
 use mathlib.Core.Path.{_≡_, refl, sym, ap, _∙_}
 use mathlib.Core.Bool.{Bool, true, false, true≢false}
-use mathlib.Core.List.{[], _∷_}
+use mathlib.Core.List.{List, [], _∷_}
 use Prim.Native.Nat.{ℕ, _+_, _≤_, _<_}
-use lib.ListN.{length, drop}
-use Rattle.definition.specs.Base.{is, Out, ok, refused, and-then}
+use native.Mathlib.Omega.{arith}
+use lib.ListN.{length, getD, drop}
+use Rattle.definition.specs.Base.{Name, is, Out, ok, refused, and-then}
 use Rattle.definition.specs.Text.{Text, next-if}
-use Rattle.definition.specs.Words.{literal}
+use Rattle.definition.specs.Words as W
+use Rattle.definition.specs.Words.{literal, is-empty}
+use Rattle.definition.specs.Check as C
 use Rattle.text.specs.declared.Cursor.{Cursor}
+use Rattle.text.proofs.Steps.{next-if-leaves}
 use Rattle.words.specs.Table.{part}
+use Rattle.words.proofs.Parts.{part-length}
 use Rattle.identifiers.specs.Rounds.{takes, round, got, known-after, named}
 use Rattle.identifiers.specs.Answers.{NoZero, Reaches, Lies}
 use Rattle.identifiers.proofs.Steps.{closing-takes}
@@ -52,3 +57,33 @@ module _ {S : Type 0} (count : S → ℕ) (note : Text → S → S) (text : Text
   plain-refused e =
       running-refused count note false text (running-first count note false text words false at i) refl f h
       (first (count words) ∙ ap (λ o. and-then o (λ s v. ok (takes true false s) v)) e)
+
+-- THE NAME
+some-name : (name : Name) → 0 < length name → is-empty name ≡ false
+unfolding is-empty
+some-name [] h = absurd (omega arith)
+some-name (b ∷ name) h = refl
+
+-- no `0` stands where the identifier begins: it is the literal, and its words are noted
+module _ (text : Text) (at : ℕ) (l : at < length text) (z : is "0" (getD text at 0) ≡ false) (words : List Name) where
+  pub one-literal : {a b : ℕ} → Lies (literal false (drop at text)) (λ s. s) text at a b → W.identifier words (drop at text) ≡ ok (W.identified (part text a b) (W.note-words (part text a b) words)) (drop b text)
+  unfolding W.identifier W.identifier-from
+  one-literal {a} {b} h =
+      let k : 0 < length (part text a b) = rw (part-length text a b (h .inside)) (omega (arith, h .some)) in
+      rw (W.identifier, next-if-leaves text at (is "0") l z, W.identifier-from, next-if-leaves text at (is "0") l z, h .is, some-name (part text a b) k)
+
+  pub one-refused : {n : ℕ} → literal false (drop at text) ≡ refused n → W.identifier words (drop at text) ≡ refused n
+  unfolding W.identifier W.identifier-from
+  one-refused e = rw (W.identifier, next-if-leaves text at (is "0") l z, W.identifier-from, next-if-leaves text at (is "0") l z, e)
+
+-- the same, where words are a count
+module _ (text : Text) (at : ℕ) (l : at < length text) (z : is "0" (getD text at 0) ≡ false) (known : ℕ) where
+  pub one-counted : {a b : ℕ} → Lies (literal false (drop at text)) (λ s. s) text at a b → C.identifier known (drop at text) ≡ ok (C.identified false (C.count-words-from 0 0 (part text a b) known)) (drop b text)
+  unfolding C.identifier C.identifier-from
+  one-counted {a} {b} h =
+      let k : 0 < length (part text a b) = rw (part-length text a b (h .inside)) (omega (arith, h .some)) in
+      rw (C.identifier, next-if-leaves text at (is "0") l z, C.identifier-from, next-if-leaves text at (is "0") l z, h .is, some-name (part text a b) k)
+
+  pub one-not-counted : {n : ℕ} → literal false (drop at text) ≡ refused n → C.identifier known (drop at text) ≡ refused n
+  unfolding C.identifier C.identifier-from
+  one-not-counted e = rw (C.identifier, next-if-leaves text at (is "0") l z, C.identifier-from, next-if-leaves text at (is "0") l z, e)

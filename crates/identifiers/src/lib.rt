@@ -1,8 +1,9 @@
-// Identifiers, over the words as a table or as a count.
+// Identifiers, over the words as a table or as a count. The whole text is well-formed.
 ghost use mathlib.Core.Path.{_≡_};
 ghost use mathlib.Core.Bool.{true, false};
 ghost use Prim.Native.Nat.{ℕ, _+_, _-_, _≤_, _<_};
 ghost use lib.ListN.{length, drop};
+ghost use Rattle.definition.specs.Text as Text;
 ghost use Rattle.definition.specs.Words as W;
 ghost use Rattle.definition.specs.Check as C;
 ghost use Rattle.words.specs.Table.{part, table, Fitting, Holds};
@@ -15,7 +16,7 @@ use text::Cursor;
 use text::Number;
 use text::natural;
 use text::next_if;
-use utf8::well_formed;
+use utf8::between_characters;
 use words::Words;
 use words::count_words;
 use words::note_words;
@@ -27,7 +28,7 @@ enum Letters {
 }
 
 // Where the bytes of a literal lie: text[from..to].
-enum Extent {
+pub enum Extent {
     Read(usize, usize),
     Refused(Refusal),
 }
@@ -85,7 +86,7 @@ fn word_letters(text: &[u8], c: Cursor, known: usize, first: bool) -> Letters
 
 // The next n bytes, if they are there and well-formed.
 fn bytes_of(text: &[u8], c: Cursor, n: usize) -> Extent
-    requires { ⌜ (c .at ≤ length (now text)) × (0 < n) ⌝ }
+    requires { ⌜ (c .at ≤ length (now text)) × (0 < n) × (Text.well-formed (now text) ≡ true) ⌝ }
     ensures { λ r. ⌜ Extends (whole-slice n (drop (c .at) (now (text .entry)))) (now (text .entry)) (c .at) r ⌝ }
 {
     let from = c.at;
@@ -93,14 +94,15 @@ fn bytes_of(text: &[u8], c: Cursor, n: usize) -> Extent
         return Extent::Refused(Refusal::Spelling);
     }
     let to = from + n;
-    if well_formed(text, from, to) {
+    if between_characters(text, from, to) {
         return Extent::Read(from, to);
     }
     Extent::Refused(Refusal::Spelling)
 }
 
 // A length and that many bytes.
-fn literal(text: &[u8], c: Cursor, punycoded: bool) -> Extent
+pub fn literal(text: &[u8], c: Cursor, punycoded: bool) -> Extent
+    requires { ⌜ Text.well-formed (now text) ≡ true ⌝ }
     ensures { λ r. ⌜ Extends (W.literal punycoded (drop (c .at) (now (text .entry)))) (now (text .entry)) (c .at) r ⌝ }
 {
     match natural(text, c) {
@@ -121,7 +123,7 @@ fn literal(text: &[u8], c: Cursor, punycoded: bool) -> Extent
 
 // The closing `0`, or a literal.
 fn close_or_take(text: &[u8], c: Cursor, punycoded: bool, empty: bool, more: bool) -> Piece
-    requires { ⌜ c .at ≤ length (now text) ⌝ }
+    requires { ⌜ (c .at ≤ length (now text)) × (Text.well-formed (now text) ≡ true) ⌝ }
     ensures { λ r. ⌜ Pieced (closing punycoded empty more (drop (c .at) (now (text .entry)))) (now (text .entry)) (c .at) r ⌝ }
 {
     let end = next_if(text, c, b'0');
@@ -138,7 +140,7 @@ fn close_or_take(text: &[u8], c: Cursor, punycoded: bool, empty: bool, more: boo
 
 // One round of an identifier, where so many words are known.
 fn round_of(text: &[u8], c: Cursor, known: usize, subs: bool, punycoded: bool, empty: bool) -> Piece
-    requires { ⌜ c .at ≤ length (now text) ⌝ }
+    requires { ⌜ (c .at ≤ length (now text)) × (Text.well-formed (now text) ≡ true) ⌝ }
     ensures { λ r. ⌜ Pieced (round known subs punycoded empty (drop (c .at) (now (text .entry)))) (now (text .entry)) (c .at) r ⌝ }
 {
     if !subs {
@@ -163,7 +165,7 @@ fn noted(text: &[u8], from: usize, to: usize, punycoded: bool, w: Words) -> Word
 
 // The rounds of an identifier, from the one at the cursor to the last.
 fn rounds_of(text: &[u8], c: Cursor, w: Words, subs: bool, punycoded: bool) -> Identified
-    requires { ⌜ (c .at ≤ length (now text)) × ((length (now text) ≤ 65535) × Fitting (now text) w) ⌝ }
+    requires { ⌜ (c .at ≤ length (now text)) × ((length (now text) ≤ 65535) × Fitting (now text) w) × (Text.well-formed (now text) ≡ true) ⌝ }
     ensures { λ r. ⌜ ((fuel : ℕ) → length (now (text .entry)) < c .at + fuel → Got-table (named length W.note-words fuel subs punycoded (table (now (text .entry)) w) true (drop (c .at) (now (text .entry)))) (now (text .entry)) (c .at) (r .read) (r .words)) × Fitting (now (text .entry)) (r .words) ⌝ }
 {
     let mut at = c.at;
@@ -209,7 +211,7 @@ fn rounds_of(text: &[u8], c: Cursor, w: Words, subs: bool, punycoded: bool) -> I
 
 // An identifier that does not begin with `0`: one literal.
 fn plain(text: &[u8], c: Cursor, w: Words) -> Identified
-    requires { ⌜ (c .at ≤ length (now text)) × (length (now text) ≤ 65535) × Fitting (now text) w × NoZero (now text) (c .at) ⌝ }
+    requires { ⌜ (c .at ≤ length (now text)) × (length (now text) ≤ 65535) × Fitting (now text) w × NoZero (now text) (c .at) × (Text.well-formed (now text) ≡ true) ⌝ }
     ensures { λ r. ⌜ ((fuel : ℕ) → length (now (text .entry)) < c .at + fuel → Got-table (named length W.note-words fuel false false (table (now (text .entry)) w) true (drop (c .at) (now (text .entry)))) (now (text .entry)) (c .at) (r .read) (r .words)) × Fitting (now (text .entry)) (r .words) ⌝ }
 {
     match literal(text, c, false) {
@@ -229,7 +231,7 @@ fn plain(text: &[u8], c: Cursor, w: Words) -> Identified
 
 // An identifier: `00` before it marks punycode, `0` alone allows words by letter.
 pub fn identifier(text: &[u8], c: Cursor, w: Words) -> Identified
-    requires { ⌜ (c .at ≤ length (now text)) × ((length (now text) ≤ 65535) × Fitting (now text) w) ⌝ }
+    requires { ⌜ (c .at ≤ length (now text)) × ((length (now text) ≤ 65535) × Fitting (now text) w) × (Text.well-formed (now text) ≡ true) ⌝ }
     ensures { λ r. ⌜ Identifies (W.identifier (table (now (text .entry)) w) (drop (c .at) (now (text .entry)))) (now (text .entry)) (c .at) r ⌝ }
 {
     let first = next_if(text, c, b'0');
@@ -257,7 +259,7 @@ fn noted_count(text: &[u8], from: usize, to: usize, punycoded: bool, count: usiz
 }
 
 fn count_rounds(text: &[u8], c: Cursor, count: usize, subs: bool, punycoded: bool) -> CountRead
-    requires { ⌜ (c .at ≤ length (now text)) × (length (now text) ≤ 65535) ⌝ }
+    requires { ⌜ (c .at ≤ length (now text)) × (length (now text) ≤ 65535) × (Text.well-formed (now text) ≡ true) ⌝ }
     ensures { λ r. ⌜ ((fuel : ℕ) → length (now (text .entry)) < c .at + fuel → Got-count (named (λ (n : ℕ). n) (C.count-words-from 0 0) fuel subs punycoded count true (drop (c .at) (now (text .entry)))) (now (text .entry)) (c .at) r) ⌝ }
 {
     let mut at = c.at;
@@ -289,7 +291,7 @@ fn count_rounds(text: &[u8], c: Cursor, count: usize, subs: bool, punycoded: boo
 }
 
 fn plain_count(text: &[u8], c: Cursor, count: usize) -> CountRead
-    requires { ⌜ (c .at ≤ length (now text)) × (length (now text) ≤ 65535) × NoZero (now text) (c .at) ⌝ }
+    requires { ⌜ (c .at ≤ length (now text)) × (length (now text) ≤ 65535) × NoZero (now text) (c .at) × (Text.well-formed (now text) ≡ true) ⌝ }
     ensures { λ r. ⌜ ((fuel : ℕ) → length (now (text .entry)) < c .at + fuel → Got-count (named (λ (n : ℕ). n) (C.count-words-from 0 0) fuel false false count true (drop (c .at) (now (text .entry)))) (now (text .entry)) (c .at) r) ⌝ }
 {
     match literal(text, c, false) {
@@ -302,7 +304,7 @@ fn plain_count(text: &[u8], c: Cursor, count: usize) -> CountRead
 
 // An identifier, and how many words are known after it.
 pub fn identifier_count(text: &[u8], c: Cursor, count: usize) -> CountRead
-    requires { ⌜ (c .at ≤ length (now text)) × (length (now text) ≤ 65535) ⌝ }
+    requires { ⌜ (c .at ≤ length (now text)) × (length (now text) ≤ 65535) × (Text.well-formed (now text) ≡ true) ⌝ }
     ensures { λ r. ⌜ Counted (C.identifier count (drop (c .at) (now (text .entry)))) (now (text .entry)) (c .at) r ⌝ }
 {
     let first = next_if(text, c, b'0');

@@ -1,5 +1,8 @@
+ghost use mathlib.Core.Path.{_≡_};
+ghost use mathlib.Core.Bool.{true};
 ghost use Prim.Native.Nat.{_≤_};
 ghost use lib.ListN.{length};
+ghost use Rattle.definition.specs.Text as Text;
 ghost use Rattle.words.specs.Table.{Fitting};
 // Runs the readers of bytes on the lines of standard input. A line is a letter, which says the reader, and the text that it is
 // given; what it answers is a line of standard output: the values and the next place, or `!` and the number of the refusal.
@@ -81,7 +84,7 @@ fn show_place(at: usize, count: usize) {
 
 // Identifiers one after another: the place behind each, and how many words are then known.
 fn identifiers(text: &[u8], at: usize, w: Words)
-    requires { ⌜ (at ≤ length (now text)) × (length (now text) ≤ 65535) × Fitting (now text) w ⌝ }
+    requires { ⌜ (at ≤ length (now text)) × (length (now text) ≤ 65535) × Fitting (now text) w × (Text.well-formed (now text) ≡ true) ⌝ }
 {
     if text.len() <= at {
         return;
@@ -101,7 +104,7 @@ fn identifiers(text: &[u8], at: usize, w: Words)
 
 // The same, with the words as a count.
 fn counted(text: &[u8], at: usize, count: usize)
-    requires { ⌜ (at ≤ length (now text)) × (length (now text) ≤ 65535) ⌝ }
+    requires { ⌜ (at ≤ length (now text)) × (length (now text) ≤ 65535) × (Text.well-formed (now text) ≡ true) ⌝ }
 {
     if text.len() <= at {
         return;
@@ -139,7 +142,7 @@ fn show_name(out: &mut [u8], text: &[u8], at: usize, w: Words)
 
 // Names as they stand behind each identifier, spelled with the words then known.
 fn spelled(text: &[u8], at: usize, w: Words)
-    requires { ⌜ (at ≤ length (now text)) × (length (now text) ≤ 65535) × Fitting (now text) w ⌝ }
+    requires { ⌜ (at ≤ length (now text)) × (length (now text) ≤ 65535) × Fitting (now text) w × (Text.well-formed (now text) ≡ true) ⌝ }
 {
     if text.len() <= at {
         return;
@@ -157,14 +160,18 @@ fn spelled(text: &[u8], at: usize, w: Words)
     }
 }
 
+// The readers of identifiers take a text that is well-formed. 4: it is not.
 fn run_words(c: u8, text: &[u8]) {
     if 65535 < text.len() {
         return;
     }
-    match c {
-        b'w' => identifiers(text, 0, Words::new()),
-        b'p' => spelled(text, 0, Words::new()),
-        _ => counted(text, 0, 0),
+    match utf8::ill_formed(text) {
+        IllFormed::At(_) => refused(Refusal::Encoding),
+        IllFormed::Nowhere => match c {
+            b'w' => identifiers(text, 0, Words::new()),
+            b'p' => spelled(text, 0, Words::new()),
+            _ => counted(text, 0, 0),
+        },
     }
 }
 

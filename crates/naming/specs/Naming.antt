@@ -17,13 +17,21 @@ use Rattle.records.specs.Holds.{Fixed, Names}
 pub known : Fixed fixed
 known = record { swift = fixed-swift; any-object = fixed-any-object; optional = fixed-optional; associated-type = fixed-associated-type; past = fixed-past }
 
--- names come from the text, the words known, and the fixed names
-abbrev pub names-of : Text → List Name → Names
-names-of text words = record { text = text; words = words; fixed = fixed; known = known }
+-- the words that identifiers may look for, and all that are noted by now
+pub record Noted : Type 0 where
+  pub words : List Name
+  pub all : List Name
 
--- where the words are those of a table
+abbrev pub noted : (words all : List Name) → Noted
+noted words all = record { words = words; all = all }
+
+-- names come from the text, the words, and the fixed names
+abbrev pub names-of : Text → Noted → Names
+names-of text ws = record { text = text; words = ws .words; noted = ws .all; fixed = fixed; known = known }
+
+-- where the words are those of a table, and no others are noted
 abbrev pub naming : Text → Words → Names
-naming text w = names-of text (table text w)
+naming text w = names-of text (noted (table text w) (table text w))
 
 -- the text is short enough, and the words lie in it
 pub record Known (text : Text) (w : Words) : Type 0 where

@@ -1,6 +1,7 @@
 // The leaves of the printer: fixed texts, numbers, the names of generic parameters, and names by their numbers.
 ghost use mathlib.Core.Path.{_≡_};
 ghost use Prim.Native.Nat.{_+_, _*_, _≤_, _<_};
+ghost use mathlib.Core.List.{_∷_, []};
 ghost use lib.ListN.{length, drop};
 ghost use lib.Seq.{sets};
 ghost use Rattle.definition.specs.Base.{Name, bytes, same};
@@ -17,6 +18,7 @@ use fixed_names::fixed_name;
 use fixed_names::word;
 use numerals::generic_param_name;
 use numerals::put_decimal;
+use output::put_byte;
 use output::store_low;
 use output::store_word;
 use spelling::name_is;
@@ -60,12 +62,34 @@ fn put_numbered(out: &mut [u8], at: usize, room: usize, n: usize) -> usize
     end
 }
 
-// Appends the text of that number.
+// The byte of a text that is one byte, and 0 for the others, of which the contract says nothing: the rare `_` and `"` are among these, since the match is a
+// short table without them.
+fn one_byte(n: usize) -> u8
+    ensures { λ r. ⌜ (0 < r → text-of n ≡ r ∷ []) ⌝ }
+{
+    match n {
+        0 => b'.',
+        6 => b'(',
+        7 => b')',
+        8 => b'<',
+        9 => b'>',
+        10 => b'[',
+        11 => b']',
+        12 => b'?',
+        _ => 0,
+    }
+}
+
+// Appends the text of that number. One byte is put as it is, without a look into the words.
 pub fn put_text(out: &mut [u8], at: usize, room: usize, n: usize) -> usize
     requires { ⌜ Room room (now out) at ⌝ }
     requires { ⌜ n < 37 ⌝ }
     ensures { λ r. ⌜ Wrote room (now (out .entry)) (now (out .exit)) at (text-of n) r ⌝ }
 {
+    let b = one_byte(n);
+    if b != 0 {
+        return put_byte(out, at, room, b);
+    }
     put_numbered(out, at, room, 134 + n)
 }
 

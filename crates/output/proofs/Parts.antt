@@ -2,14 +2,10 @@
 use mathlib.Core.Path.{_≡_, sym, ap, _∙_}
 use mathlib.Core.List.{List, _++_}
 use Prim.Native.Nat.{ℕ, _+_, _-_, _≤_, _<_, min}
-use native.Mathlib.Omega.{arith}
-use lib.ListN.{length, take, drop, length-drop}
-use lib.Seq.{length-take-le}
+use lib.ListN.{length, take, drop}
 use Rattle.copying.specs.Copied.{copied}
+use Rattle.copying.proofs.Parts.{part-length}
 use Rattle.output.specs.Sink.{part, Room, Wrote, wrote-out, wrote-in}
-
-part-length : (text : List ℕ) (from to : ℕ) → to ≤ length text → length (part text from to) ≡ to - from
-part-length text from to h = length-take-le (to - from) (drop from text) (omega (arith, length-drop from text))
 
 -- a part that ends past the slice's end, and one within it
 module _ {room at to : ℕ} {o : List ℕ} (text : List ℕ) (from : ℕ) (h : Room room o at) (k : to ≤ length text) where

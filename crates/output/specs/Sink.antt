@@ -8,10 +8,7 @@ use native.Mathlib.Nat.{div-div-eq-div-mul}
 use native.Mathlib.Numerals.{add-one, unary-clauses}
 use lib.ListN.{length, take, drop, set, length-append, length-take, length-set, take-append-drop}
 use lib.Seq.{take-at, drop-at, drop-drop, set-split, append-snoc, sets, sets-eq, length-sets}
-
--- the bytes from one place to another
-abbrev pub part : List ℕ → ℕ → ℕ → List ℕ
-part text from to = take (to - from) (drop from text)
+pub use Rattle.copying.specs.Copied.{part}
 
 -- What may be appended to: `at` is the place of the next byte, or room + 1 once something did not fit; the slice is no longer than room
 pub record Room (room : ℕ) (o : List ℕ) (at : ℕ) : Type 0 where

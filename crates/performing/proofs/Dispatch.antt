@@ -1,17 +1,16 @@
 -- What an operator's function says is what the definition's operator does.
 use mathlib.Core.Path.{_≡_, sym, ap, subst, _∙_}
 use mathlib.Core.List.{List, _∷_}
-use Prim.Native.Nat.{ℕ, _+_, _≤_, _<_}
-use Prim.Native.String.{String}
+use Prim.Native.Nat.{ℕ, _<_}
 use native.Mathlib.Omega.{arith}
-use Rattle.definition.specs.Base.{ok, refused, Done, and-then}
+use Rattle.definition.specs.Base.{refused, Done, and-then}
 use Rattle.definition.specs.Enums as Enums
 use Rattle.definition.specs.Enums.{number}
-use Rattle.definition.specs.Node.{Node, size}
+use Rattle.definition.specs.Node.{size}
 use Rattle.definition.specs.Machine as M
 use Rattle.definition.specs.Machine.{restack}
 use Rattle.definition.specs.Perform as R
-use Rattle.definition.specs.Perform.{Demangler, Run}
+use Rattle.definition.specs.Perform.{Demangler}
 use Rattle.definition.specs.declared.Operator.{Operator}
 use Rattle.definition.specs.declared.Operator.the-variants as Operator
 use Rattle.definition.specs.declared.Accessor.{Accessor}
@@ -19,7 +18,7 @@ use Rattle.definition.specs.declared.Accessor.the-variants as Accessor
 use Rattle.definition.specs.declared.Refusal.{Refusal}
 use Rattle.records.specs.Holds.{Names, Spare, Inside, Holds, Ready, Pushed, for-push}
 use Rattle.records.specs.declared.State.{State}
-use Rattle.nodes.specs.Gives.{spare, nothing-spare, full-spare, for-nodes, taken, Given, Building, Builds, Performed, Operates, Beyond}
+use Rattle.nodes.specs.Gives.{spare, nothing-spare, full-spare, taken, Given, Building, Builds, Performed, Operates, Beyond}
 use Rattle.nodes.specs.declared.Built.{Built}
 use Rattle.nodes.specs.declared.Built.the-variants as Built
 use Rattle.nodes.specs.declared.Step.{Step}

@@ -6,7 +6,7 @@ use mathlib.Core.Logic.{inl, inr}
 use Prim.Native.Nat.{ℕ}
 use native.Mathlib.Omega.{arith}
 use lib.ListN.{drop}
-use Rattle.definition.specs.Base.{Name, Out, ok, refused, Done, ret, and-then, good, bad}
+use Rattle.definition.specs.Base.{Out, ok, refused, Done, ret, and-then, good, bad}
 use Rattle.definition.specs.Text.{Text}
 use Rattle.definition.specs.Machine as M
 use Rattle.definition.specs.Operators as Op
@@ -29,7 +29,7 @@ use Rattle.nodes.proofs.Leaving.{beyond-both}
 use Rattle.copies.specs.Copying.{Recalled, recall-copies}
 use Rattle.copies.proofs.Copies.{not-recalled}
 use Rattle.runs.proofs.Turns.{regroup}
-use Rattle.naming.specs.Naming.{names-of}
+use Rattle.naming.specs.Naming.{Noted, names-of}
 use Rattle.read_turns.specs.Turns.{Reads, Comes, Fails, performs, chained, Goes, Letters}
 use Rattle.read_turns.specs.declared.Letter.{Letter}
 use Rattle.read_turns.specs.declared.Letter.the-variants as Letter
@@ -98,7 +98,7 @@ reads-ready {text} r = record { names = names-of text (r .words); machine = r .m
 
 -- ALL ITEMS: what is left to do from here comes to what the whole does
 pub record Chaining (N : ℕ) (text : Text) (from at : ℕ) (w w₁ : List ℕ) (st u : State) : Type 0 where
-  pub goes : (words : List Name) (m : Demangler) → Holds (names-of text words) w N st nothing-spare m → (m₁ : Demangler) × (chained N text from m ≡ chained N text at m₁) × Holds (names-of text words) w₁ N u nothing-spare m₁
+  pub goes : (words : Noted) (m : Demangler) → Holds (names-of text words) w N st nothing-spare m → (m₁ : Demangler) × (chained N text from m ≡ chained N text at m₁) × Holds (names-of text words) w₁ N u nothing-spare m₁
   pub reads : Reads text w₁ N u nothing-spare
   pub beyond : Beyond w w₁ N
 

@@ -4,11 +4,12 @@ use mathlib.Core.List.{List}
 use Prim.Native.Nat.{ℕ, _-_, _≤_, _<_}
 use Prim.Native.String.{String}
 use lib.ListN.{length, drop}
-use Rattle.definition.specs.Base.{Name, Out, ok, refused, Done, _>>_}
+use Rattle.definition.specs.Base.{Out, ok, refused, Done, _>>_}
 use Rattle.definition.specs.Budget as B
 use Rattle.definition.specs.Machine as M
 use Rattle.definition.specs.Reading as Reading
 use Rattle.definition.specs.Text.{Text}
+use Rattle.definition.specs.Words as W
 use Rattle.definition.specs.Operators as Op
 use Rattle.definition.specs.Perform as R
 use Rattle.definition.specs.Perform.{Demangler, Run}
@@ -17,16 +18,18 @@ use Rattle.definition.specs.Enums.{number}
 use Rattle.definition.specs.declared.Refusal.{Refusal}
 use Rattle.text.specs.declared.Cursor.{Cursor}
 use Rattle.substitutions.specs.Chain.{chain, outcome}
-use Rattle.naming.specs.Naming.{names-of}
+use Rattle.naming.specs.Naming.{Noted, noted, names-of, naming}
 use Rattle.records.specs.Holds.{Names, Spare, Holds}
 use Rattle.records.specs.declared.State.{State}
 use Rattle.nodes.specs.Gives.{nothing-spare, full-spare, Beyond, Operates}
 use Rattle.nodes.specs.declared.Step.the-variants as Step
-use Rattle.words.specs.Table.{table, Fitting}
+use Rattle.words.specs.Table.{part, table, Fitting}
 use Rattle.words.specs.declared.Words.{Words}
 use Rattle.read_turns.specs.declared.Begun.{Begun}
 use Rattle.read_turns.specs.declared.Begun.the-variants as Begun
 use Rattle.read_turns.specs.declared.NameTurned.{NameTurned}
+use Rattle.read_turns.specs.declared.PlainTurned.{PlainTurned}
+use Rattle.read_turns.specs.declared.PlainTurned.the-variants as PlainTurned
 use Rattle.read_turns.specs.declared.Turned.{Turned}
 use Rattle.read_turns.specs.declared.Turned.the-variants as Turned
 use Rattle.read_turns.specs.declared.Letter.{Letter}
@@ -34,24 +37,24 @@ use Rattle.read_turns.specs.declared.Letter.the-variants as Letter
 
 -- some machine lies there, with the names of the body
 pub record Reads (text : Text) (w : List ℕ) (N : ℕ) (st : State) (sp : Spare) : Type 0 where
-  pub words : List Name
+  pub words : Noted
   pub machine : Demangler
   pub holds : Holds (names-of text words) w N st sp machine
 
 -- the step comes to the text from c on, and to a machine that lies in the workspace w with u
-pub record Came (f : Run Text) (text : Text) (words : List Name) (w : List ℕ) (N : ℕ) (u : State) (c : Cursor) (m : Demangler) : Type 0 where
+pub record Came (f : Run Text) (text : Text) (words : Noted) (w : List ℕ) (N : ℕ) (u : State) (c : Cursor) (m : Demangler) : Type 0 where
   pub machine : Demangler
   pub is : f m ≡ ok (drop (c .at) text) machine
   pub holds : Holds (names-of text words) w N u nothing-spare machine
 
 -- whatever machine lay there, with as much to spare
 pub record Comes (f : Run Text) (sp : Spare) (text : Text) (w w′ : List ℕ) (N : ℕ) (st u : State) (c : Cursor) : Type 0 where
-  pub comes : (words : List Name) (m : Demangler) → Holds (names-of text words) w N st sp m → Came f text words w′ N u c m
+  pub comes : (words : Noted) (m : Demangler) → Holds (names-of text words) w N st sp m → Came f text words w′ N u c m
   pub inside : c .at ≤ length text
   pub beyond : Beyond w w′ N
 
 pub record Fails (f : Run Text) (sp : Spare) (text : Text) (w w′ : List ℕ) (N : ℕ) (st : State) (r : Refusal) : Type 0 where
-  pub fails : (words : List Name) (m : Demangler) → Holds (names-of text words) w N st sp m → f m ≡ refused (number r)
+  pub fails : (words : Noted) (m : Demangler) → Holds (names-of text words) w N st sp m → f m ≡ refused (number r)
   pub beyond : Beyond w w′ N
 
 abbrev pub Turning : Run Text → Spare → Text → (w w′ : List ℕ) (N : ℕ) (st : State) → Turned → Type 0
@@ -67,13 +70,13 @@ abbrev pub chained : (N : ℕ) → Text → ℕ → Run Text
 chained N text at = performs N (outcome (chain (drop at text)))
 
 -- one item of `A` is done, and the rest comes to what the whole does
-pub record Went (N : ℕ) (text : Text) (at : ℕ) (words : List Name) (w : List ℕ) (u : State) (c : Cursor) (m : Demangler) : Type 0 where
+pub record Went (N : ℕ) (text : Text) (at : ℕ) (words : Noted) (w : List ℕ) (u : State) (c : Cursor) (m : Demangler) : Type 0 where
   pub machine : Demangler
   pub is : chained N text at m ≡ chained N text (c .at) machine
   pub holds : Holds (names-of text words) w N u nothing-spare machine
 
 pub record Goes (N : ℕ) (text : Text) (at : ℕ) (w w′ : List ℕ) (st u : State) (c : Cursor) : Type 0 where
-  pub goes : (words : List Name) (m : Demangler) → Holds (names-of text words) w N st nothing-spare m → Went N text at words w′ u c m
+  pub goes : (words : Noted) (m : Demangler) → Holds (names-of text words) w N st nothing-spare m → Went N text at words w′ u c m
   pub inside : c .at ≤ length text
   pub onward : at < c .at
   pub beyond : Beyond w w′ N
@@ -102,12 +105,12 @@ Begins N st (Begun.Refused r) = (nm : Names) (w : List ℕ) (m : Demangler) → 
 
 -- a turn that reads a name, with the words of a table before it and after it
 pub record NameCame (N : ℕ) (text : Text) (at : ℕ) (words after : Words) (w w′ : List ℕ) (st u : State) (c : Cursor) : Type 0 where
-  pub comes : (m : Demangler) → Holds (names-of text (table text words)) w N st nothing-spare m → Came (turn N (Reading.one N) (drop at text)) text (table text after) w′ N u c m
+  pub comes : (m : Demangler) → Holds (naming text words) w N st nothing-spare m → Came (turn N (Reading.one N) (drop at text)) text (noted (table text after) (table text after)) w′ N u c m
   pub inside : c .at ≤ length text
   pub beyond : Beyond w w′ N
 
 pub record NameFails (N : ℕ) (text : Text) (at : ℕ) (words : Words) (w w′ : List ℕ) (st : State) (r : Refusal) : Type 0 where
-  pub fails : (m : Demangler) → Holds (names-of text (table text words)) w N st nothing-spare m → turn N (Reading.one N) (drop at text) m ≡ refused (number r)
+  pub fails : (m : Demangler) → Holds (naming text words) w N st nothing-spare m → turn N (Reading.one N) (drop at text) m ≡ refused (number r)
   pub beyond : Beyond w w′ N
 
 abbrev pub NameTurning : (N : ℕ) → Text → (at : ℕ) → (words after : Words) → (w w′ : List ℕ) → State → Turned → Type 0
@@ -117,3 +120,14 @@ NameTurning N text at words after w w′ st (Turned.Refused r) = NameFails N tex
 pub record NameTurn (N : ℕ) (text : Text) (at : ℕ) (words : Words) (w w′ : List ℕ) (st : State) (r : NameTurned) : Type 0 where
   pub turns : NameTurning N text at words (r .words) w w′ st (r .turn)
   pub fitting : Fitting text (r .words)
+
+-- a turn that reads the literal from one place to the cursor as a name: its words are noted, whatever words names look for
+pub record PlainCame (N : ℕ) (text : Text) (at from : ℕ) (w w′ : List ℕ) (st u : State) (c : Cursor) : Type 0 where
+  pub comes : (words : Noted) (m : Demangler) → Holds (names-of text words) w N st nothing-spare m → Came (turn N (Reading.one N) (drop at text)) text (noted (words .words) (W.note-words (part text from (c .at)) (words .all))) w′ N u c m
+  pub order : from ≤ c .at
+  pub inside : c .at ≤ length text
+  pub beyond : Beyond w w′ N
+
+abbrev pub PlainTurning : (N : ℕ) → Text → (at : ℕ) → (w w′ : List ℕ) → State → PlainTurned → Type 0
+PlainTurning N text at w w′ st (PlainTurned.To u from c) = PlainCame N text at from w w′ st u c
+PlainTurning N text at w w′ st (PlainTurned.Refused r) = Fails (turn N (Reading.one N) (drop at text)) nothing-spare text w w′ N st r

@@ -4,19 +4,21 @@ ghost use mathlib.Core.List.{[], _∷_};
 ghost use Prim.Native.Nat.{_≤_, _<_};
 ghost use lib.ListN.{length, getD, drop};
 ghost use mathlib.Core.Bool.{true, false};
-ghost use Rattle.definition.specs.Base.{digit};
+ghost use Rattle.definition.specs.Base.{is, digit};
 ghost use Rattle.definition.specs.Calls as Calls;
 ghost use Rattle.definition.specs.Enums as Enums;
 ghost use Rattle.definition.specs.Perform as R;
 ghost use Rattle.definition.specs.Reading as Reading;
+ghost use Rattle.definition.specs.Text as Text;
 ghost use Rattle.words.specs.Table.{Fitting};
 ghost use Rattle.records.specs.Holds.{Inside, Ready};
 ghost use Rattle.nodes.specs.Gives.{nothing-spare, full-spare, Kept};
 ghost use Rattle.substitutions.specs.Chain.{chain, outcome};
-ghost use Rattle.read_turns.specs.Turns.{Reads, performs, Turning, Letters, Performed, Begins, NameTurn};
+ghost use Rattle.read_turns.specs.Turns.{Reads, performs, Turning, Letters, Performed, Begins, NameTurn, PlainTurning};
 use budget::Spent;
 use definition::Operator;
 use definition::Refusal;
+use identifiers::Extent;
 use identifiers::NameRead;
 use letters::OperatorRead;
 use nodes::Step;
@@ -49,6 +51,12 @@ pub enum Begun {
 pub struct NameTurned {
     pub turn: Turned,
     pub words: Words,
+}
+
+// A turn that reads a literal as a name: the state, where the literal starts, and the cursor behind it; or its refusal.
+pub enum PlainTurned {
+    To(State, usize, Cursor),
+    Refused(Refusal),
 }
 
 // The next item behind `A`: so many copies of a remembered node.
@@ -174,7 +182,7 @@ pub fn name_turn(
     st: State,
     words: Words,
 ) -> NameTurned
-    requires { ⌜ Ready (now ws) n st nothing-spare × (c .at < length (now text)) × (digit (getD (now text) (c .at) 0) ≡ true) × (length (now text) ≤ 65535) × Fitting (now text) words ⌝ }
+    requires { ⌜ Ready (now ws) n st nothing-spare × (c .at < length (now text)) × (digit (getD (now text) (c .at) 0) ≡ true) × (length (now text) ≤ 65535) × Fitting (now text) words × (Text.well-formed (now text) ≡ true) ⌝ }
     ensures { λ r. ⌜ NameTurn n (now (text .entry)) (c .at) words (now (ws .entry)) (now (ws .exit)) st r ⌝ }
 {
     match begin(n, st) {
@@ -201,5 +209,25 @@ pub fn name_turn(
             turn: Turned::Refused(r),
             words,
         },
+    }
+}
+
+// One turn of `run` where a digit stands that is no `0`: a literal is the name. Its words are not noted yet.
+pub fn plain_turn(text: &[u8], c: Cursor, ws: &mut [u32], n: usize, st: State) -> PlainTurned
+    requires { ⌜ Ready (now ws) n st nothing-spare × (c .at < length (now text)) × (digit (getD (now text) (c .at) 0) ≡ true) × (is "0" (getD (now text) (c .at) 0) ≡ false) × (length (now text) ≤ 65535) × (Text.well-formed (now text) ≡ true) ⌝ }
+    ensures { λ r. ⌜ PlainTurning n (now (text .entry)) (c .at) (now (ws .entry)) (now (ws .exit)) st r ⌝ }
+{
+    match begin(n, st) {
+        Begun::Next(u) => {
+            let at = c.at;
+            match identifiers::literal(text, c, false) {
+                Extent::Read(from, to) => {
+                    let v = name(ws, n, u, at);
+                    PlainTurned::To(v, from, Cursor { at: to })
+                }
+                Extent::Refused(f) => PlainTurned::Refused(f),
+            }
+        }
+        Begun::Refused(r) => PlainTurned::Refused(r),
     }
 }

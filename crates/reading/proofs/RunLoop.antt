@@ -1,11 +1,13 @@
 -- Turns one after another. Assumes nothing.
-use mathlib.Core.Path.{_≡_, refl, ap, subst, _∙_}
+use mathlib.Core.Path.{_≡_, refl, sym, ap, subst, subst⁻¹, _∙_}
 use mathlib.Core.List.{List, []}
 use Prim.Native.Nat.{ℕ, suc, _+_, _*_, _-_, _≤_, _<_}
 use native.Mathlib.Omega.{arith}
 use lib.ListN.{length, drop}
-use Rattle.definition.specs.Base.{ok}
+use Rattle.definition.specs.Base.{Name, ok}
 use Rattle.definition.specs.Text.{Text}
+use Rattle.definition.specs.Words as W
+use Rattle.definition.proofs.WordsAdded.{Begins}
 use Rattle.definition.specs.Budget as B
 use Rattle.definition.specs.Machine as M
 use Rattle.definition.specs.Perform.{Demangler}
@@ -22,30 +24,41 @@ use Rattle.runs.proofs.Turns.{over, no-more, goes-on, stops}
 use Rattle.nodes.specs.Gives.{nothing-spare, Beyond}
 use Rattle.nodes.proofs.Taking.{beyond-itself}
 use Rattle.nodes.proofs.Leaving.{beyond-both}
-use Rattle.naming.specs.Naming.{naming}
+use Rattle.naming.specs.Naming.{Noted, noted, names-of, naming}
 use Rattle.words.specs.Table.{table, Fitting}
 use Rattle.words.specs.declared.Words.{Words}
-use Rattle.read_turns.specs.Turns.{Reads, Comes, Fails, Turning, NameCame, NameFails, NameTurning}
+use Rattle.waiting.specs.Waits.{noted-behind, Waits, More}
+use Rattle.waiting.specs.declared.Waiting.{Waiting}
+use Rattle.waiting.proofs.Behind.{noted-begins, noted-nothing}
+use Rattle.read_turns.specs.Turns.{Reads, Comes, Fails, Turning, NameCame, NameFails, NameTurning, PlainCame, PlainTurning}
+use Rattle.read_turns.proofs.MoreWords.{holds-more}
 use Rattle.reading.specs.Runs.{read, Ran, Stopped}
 use Rattle.read_turns.specs.declared.Turned.{Turned}
 use Rattle.read_turns.specs.declared.Turned.the-variants as Turned
+use Rattle.read_turns.specs.declared.PlainTurned.{PlainTurned}
+use Rattle.read_turns.specs.declared.PlainTurned.the-variants as PlainTurned
+
+-- the words of a table, and with those of all that waits
+abbrev pub all-of : Text → Words → Waiting → Noted
+all-of body words waiting = noted (table body words) (noted-behind W.note-words body waiting (table body words))
 
 -- THE LOOP: i turns are done, and the rest comes to what the whole does
-pub record Running (N k : ℕ) (body : Text) (w w₁ : List ℕ) (i at : ℕ) (words : Words) (u : State) : Type 0 where
+pub record Running (N k : ℕ) (body : Text) (w w₁ : List ℕ) (i at : ℕ) (words : Words) (waiting : Waiting) (u : State) : Type 0 where
   pub machine : Demangler
   pub is : read N k body ≡ turns (turn N (Reading.one N)) (k - i) (drop at body) machine
   pub inside : at ≤ length body
-  pub holds : Holds (naming body words) w₁ N u nothing-spare machine
+  pub holds : Holds (names-of body (all-of body words waiting)) w₁ N u nothing-spare machine
   pub fitting : Fitting body words
+  pub waits : Waits body waiting
   pub beyond : Beyond w w₁ N
 
 -- nothing lies there
 abbrev pub at-first : Budget → State
 at-first b = record { budget = b; top = 0; depth = 0; seen = 0 }
 
-pub run-first : (N k : ℕ) (body : Text) (w : List ℕ) {b : Budget} {words : Words} → budget-of b ≡ B.fresh → table body words ≡ [] → Fitting body words → 64 * N ≤ length w → N ≤ 65536 → Running N k body w w 0 0 words (at-first b)
+pub run-first : (N k : ℕ) (body : Text) (w : List ℕ) {b : Budget} {words : Words} {waiting : Waiting} → budget-of b ≡ B.fresh → table body words ≡ [] → Fitting body words → waiting .count ≡ 0 → Waits body waiting → 64 * N ≤ length w → N ≤ 65536 → Running N k body w w 0 0 words waiting (at-first b)
 unfolding B.fresh weight
-run-first N k body w {b} {words} q e f l h =
+run-first N k body w {b} {words} {waiting} q e f z₀ v l h =
     let t : b .total ≡ 0 = ap (λ (x : B.Budget). x .total) q in
     let z : k ≡ k - 0 = omega arith in
     record {
@@ -63,21 +76,22 @@ run-first N k body w {b} {words} q e f l h =
         kept = omega (arith, t);
         stack = refl;
         substitutions = refl;
-        words = e;
+        words = noted-nothing W.note-words body waiting (table body words) z₀ ∙ e;
       };
       fitting = f;
+      waits = v;
       beyond = beyond-itself w N;
     }
 
-module _ {N k : ℕ} {body : Text} {w w₁ : List ℕ} {i at : ℕ} {words : Words} {u : State} (h : Running N k body w w₁ i at words u) where
+module _ {N k : ℕ} {body : Text} {w w₁ : List ℕ} {i at : ℕ} {words : Words} {waiting : Waiting} {u : State} (h : Running N k body w w₁ i at words waiting u) where
   pub run-reads : Reads body w₁ N u nothing-spare
-  run-reads = record { words = table body words; machine = h .machine; holds = h .holds }
+  run-reads = record { words = all-of body words waiting; machine = h .machine; holds = h .holds }
 
   pub run-over : length body ≤ at → Ran N k body w w₁ words u
-  run-over l = record { machine = h .machine; is = h .is ∙ over (turn N (Reading.one N)) body (k - i) at (h .machine) l; holds = h .holds; fitting = h .fitting; beyond = h .beyond }
+  run-over l = record { machine = h .machine; all = all-of body words waiting .all; is = h .is ∙ over (turn N (Reading.one N)) body (k - i) at (h .machine) l; holds = h .holds; fitting = h .fitting; beyond = h .beyond }
 
   pub run-done : k ≤ i → Ran N k body w w₁ words u
-  run-done l = record { machine = h .machine; is = h .is ∙ no-more (turn N (Reading.one N)) body (k - i) at (h .machine) (omega arith); holds = h .holds; fitting = h .fitting; beyond = h .beyond }
+  run-done l = record { machine = h .machine; all = all-of body words waiting .all; is = h .is ∙ no-more (turn N (Reading.one N)) body (k - i) at (h .machine) (omega arith); holds = h .holds; fitting = h .fitting; beyond = h .beyond }
 
   module _ (l : at < length body) (m : i < k) where
     one-less : k - i ≡ suc (k - (i + 1))
@@ -86,30 +100,58 @@ module _ {N k : ℕ} {body : Text} {w w₁ : List ℕ} {i at : ℕ} {words : Wor
     goes : {f : Demangler} (t : Text) → turn N (Reading.one N) (drop at body) (h .machine) ≡ ok t f → read N k body ≡ turns (turn N (Reading.one N)) (k - (i + 1)) t f
     goes {f} t q = h .is ∙ goes-on (turn N (Reading.one N)) body at l (h .machine) (k - i) (k - (i + 1)) one-less t f q
 
-    pub run-more : {w₂ : List ℕ} {v : State} {c : Cursor} → Comes (turn N (Reading.one N) (drop at body)) nothing-spare body w₁ w₂ N u v c → Running N k body w w₂ (i + 1) (c .at) words v
+    pub run-more : {w₂ : List ℕ} {v : State} {c : Cursor} → Comes (turn N (Reading.one N) (drop at body)) nothing-spare body w₁ w₂ N u v c → Running N k body w w₂ (i + 1) (c .at) words waiting v
     run-more {w₂} {v} {c} g =
-        let o = g .comes (table body words) (h .machine) (h .holds) in
-        record { machine = o .machine; is = goes (drop (c .at) body) (o .is); inside = g .inside; holds = o .holds; fitting = h .fitting; beyond = beyond-both (h .beyond) (g .beyond) }
+        let o = g .comes (all-of body words waiting) (h .machine) (h .holds) in
+        record { machine = o .machine; is = goes (drop (c .at) body) (o .is); inside = g .inside; holds = o .holds; fitting = h .fitting; waits = h .waits; beyond = beyond-both (h .beyond) (g .beyond) }
 
     pub run-stopped : {w₂ : List ℕ} {r : Refusal} → Fails (turn N (Reading.one N) (drop at body)) nothing-spare body w₁ w₂ N u r → Stopped N k body w w₂ r at
     run-stopped {r = r} g = record {
-      is = h .is ∙ stops (turn N (Reading.one N)) body at l (h .machine) (k - i) (k - (i + 1)) one-less (number r) (g .fails (table body words) (h .machine) (h .holds));
+      is = h .is ∙ stops (turn N (Reading.one N)) body at l (h .machine) (k - i) (k - (i + 1)) one-less (number r) (g .fails (all-of body words waiting) (h .machine) (h .holds));
       inside = omega arith;
       beyond = beyond-both (h .beyond) (g .beyond);
     }
 
-    -- a name
-    pub name-more : {w₂ : List ℕ} {v : State} {c : Cursor} (after : Words) → NameCame N body at words after w₁ w₂ u v c → Fitting body after → Running N k body w w₂ (i + 1) (c .at) after v
-    name-more {w₂} {v} {c} after g f =
-        let o = g .comes (h .machine) (h .holds) in
-        record { machine = o .machine; is = goes (drop (c .at) body) (o .is); inside = g .inside; holds = o .holds; fitting = f; beyond = beyond-both (h .beyond) (g .beyond) }
+    -- a literal, which waits then
+    pub plain-more : {w₂ : List ℕ} {v : State} {from : ℕ} (c : Cursor) {longer : Waiting} → PlainCame N body at from w₁ w₂ u v c → More body from (c .at) waiting longer → Running N k body w w₂ (i + 1) (c .at) words longer v
+    plain-more {w₂} {v} c g q =
+        let o = g .comes (all-of body words waiting) (h .machine) (h .holds) in
+        record {
+          machine = o .machine;
+          is = goes (drop (c .at) body) (o .is);
+          inside = g .inside;
+          holds = subst (λ (all : List Name). Holds (names-of body (noted (table body words) all)) w₂ N v nothing-spare (o .machine)) (sym (q .words (table body words))) (o .holds);
+          fitting = h .fitting;
+          waits = q .waits;
+          beyond = beyond-both (h .beyond) (g .beyond);
+        }
 
-    pub name-stopped : {w₂ : List ℕ} {r : Refusal} → NameFails N body at words w₁ w₂ u r → Stopped N k body w w₂ r at
-    name-stopped {r = r} g = record {
-      is = h .is ∙ stops (turn N (Reading.one N)) body at l (h .machine) (k - i) (k - (i + 1)) one-less (number r) (g .fails (h .machine) (h .holds));
-      inside = omega arith;
-      beyond = beyond-both (h .beyond) (g .beyond);
-    }
+    -- a name, once all that waits is noted
+    module _ (known : Words) (e : table body known ≡ noted-behind W.note-words body waiting (table body words)) where
+      pub all-noted : Holds (naming body known) w₁ N u nothing-spare (h .machine)
+      all-noted =
+          let b : Begins (table body words) (table body known) = subst⁻¹ (Begins (table body words)) e (noted-begins body waiting (table body words)) in
+          holds-more body (all-of body words waiting) (noted (table body known) (table body known)) b (e ∙ h .holds .words) (h .holds)
+
+      pub name-more : {w₂ : List ℕ} {v : State} {c : Cursor} (after : Words) {none : Waiting} → NameCame N body at known after w₁ w₂ u v c → Fitting body after → none .count ≡ 0 → Waits body none → Running N k body w w₂ (i + 1) (c .at) after none v
+      name-more {w₂} {v} {c} after {none} g f z q =
+          let o = g .comes (h .machine) all-noted in
+          record {
+            machine = o .machine;
+            is = goes (drop (c .at) body) (o .is);
+            inside = g .inside;
+            holds = subst (λ (all : List Name). Holds (names-of body (noted (table body after) all)) w₂ N v nothing-spare (o .machine)) (sym (noted-nothing W.note-words body none (table body after) z)) (o .holds);
+            fitting = f;
+            waits = q;
+            beyond = beyond-both (h .beyond) (g .beyond);
+          }
+
+      pub name-stopped : {w₂ : List ℕ} {r : Refusal} → NameFails N body at known w₁ w₂ u r → Stopped N k body w w₂ r at
+      name-stopped {r = r} g = record {
+        is = h .is ∙ stops (turn N (Reading.one N)) body at l (h .machine) (k - i) (k - (i + 1)) one-less (number r) (g .fails (h .machine) all-noted);
+        inside = omega arith;
+        beyond = beyond-both (h .beyond) (g .beyond);
+      }
 
 -- AFTER A MATCH
 module _ (N : ℕ) (text : Text) (at : ℕ) (w w₁ : List ℕ) (st : State) {r : Turned} where
@@ -125,3 +167,10 @@ module _ (N : ℕ) (text : Text) (at : ℕ) (w w₁ : List ℕ) (st : State) {r 
 
     pub name-not-reached : {x : Refusal} → r ≡ Turned.Refused x → NameTurning N text at words after w w₁ st r → NameFails N text at words w w₁ st x
     name-not-reached q h = subst (NameTurning N text at words after w w₁ st) q h
+
+module _ (N : ℕ) (text : Text) (at : ℕ) (w w₁ : List ℕ) (st : State) {r : PlainTurned} where
+  pub plain-reached : {u : State} {from : ℕ} {c : Cursor} → r ≡ PlainTurned.To u from c → PlainTurning N text at w w₁ st r → PlainCame N text at from w w₁ st u c
+  plain-reached q h = subst (PlainTurning N text at w w₁ st) q h
+
+  pub plain-not-reached : {x : Refusal} → r ≡ PlainTurned.Refused x → PlainTurning N text at w w₁ st r → Fails (turn N (Reading.one N) (drop at text)) nothing-spare text w w₁ N st x
+  plain-not-reached q h = subst (PlainTurning N text at w w₁ st) q h

@@ -5,12 +5,13 @@ use Prim.Native.Nat.{ℕ, _-_, _≤_, _<_}
 use lib.ListN.{length}
 use Rattle.definition.specs.Machine as M
 use Rattle.definition.specs.Reading as Reading
+use Rattle.definition.specs.Base.{Name}
 use Rattle.definition.specs.Text.{Text}
 use Rattle.definition.specs.Perform.{Demangler}
 use Rattle.definition.specs.Calls.{End, ran, stopped, turn, turns, single}
 use Rattle.definition.specs.Enums.{number}
 use Rattle.definition.specs.declared.Refusal.{Refusal}
-use Rattle.naming.specs.Naming.{naming}
+use Rattle.naming.specs.Naming.{noted, names-of}
 use Rattle.records.specs.Holds.{Names, Named, Holds}
 use Rattle.records.specs.Lies.{Lies}
 use Rattle.runs.specs.Ends.{kinds-of}
@@ -21,7 +22,7 @@ use Rattle.reading.specs.declared.Left.{Left}
 use Rattle.reading.specs.declared.Left.the-variants as Left
 use Rattle.records.specs.declared.State.{State}
 use Rattle.nodes.specs.Gives.{nothing-spare, Beyond}
-use Rattle.words.specs.Table.{Fitting}
+use Rattle.words.specs.Table.{table, Fitting}
 use Rattle.words.specs.declared.Words.{Words}
 use Rattle.reading.specs.declared.Ended.{Ended}
 use Rattle.reading.specs.declared.Ended.the-variants as Ended
@@ -31,10 +32,12 @@ use Rattle.reading.specs.declared.Ended.the-variants as Ended
 abbrev pub read : (N k : ℕ) → Text → End Demangler
 read N k body = turns (turn N (Reading.one N)) k body (M.fresh [])
 
+-- the words of the table are those that names are spelled with; the machine may have noted more
 pub record Ran (N k : ℕ) (body : Text) (w w′ : List ℕ) (words : Words) (u : State) : Type 0 where
   pub machine : Demangler
+  pub all : List Name
   pub is : read N k body ≡ ran machine
-  pub holds : Holds (naming body words) w′ N u nothing-spare machine
+  pub holds : Holds (names-of body (noted (table body words) all)) w′ N u nothing-spare machine
   pub fitting : Fitting body words
   pub beyond : Beyond w w′ N
 

@@ -1,23 +1,31 @@
 // The reading's run, one turn after another, and what its end comes to.
+ghost use mathlib.Core.Path.{_≡_};
+ghost use mathlib.Core.Bool.{true};
 ghost use mathlib.Core.List.{map, reverse};
 ghost use Prim.Native.Nat.{_+_, _*_, _≤_, _<_};
 ghost use lib.ListN.{length};
 ghost use Rattle.definition.specs.Calls as Calls;
 ghost use Rattle.definition.specs.Node.{entry-of};
 ghost use Rattle.definition.specs.Perform as R;
+ghost use Rattle.definition.specs.Text as Text;
 ghost use Rattle.records.specs.Holds.{Names, Holds, Ready};
 ghost use Rattle.runs.specs.Ends.{Writing};
 ghost use Rattle.nodes.specs.Gives.{nothing-spare};
 ghost use Rattle.reading.specs.Runs.{Ending, Singles};
 use budget::Budget;
 use definition::Refusal;
+use read_turns::PlainTurned;
 use read_turns::Turned;
 use read_turns::name_turn;
+use read_turns::plain_turn;
 use read_turns::turn;
 use records::State;
 use runs::Final;
 use runs::Written;
 use text::Cursor;
+use waiting::Waiting;
+use waiting::note_waiting;
+use waiting::wait;
 use words::Words;
 
 // The state at a run's end; or the refusal, and where in the body the operator began that is refused.
@@ -26,7 +34,7 @@ pub enum Ended {
     Stopped(Refusal, usize),
 }
 
-// A run's end, and the words known then.
+// A run's end, and the words that names are spelled with then.
 pub struct Reached {
     pub end: Ended,
     pub words: Words,
@@ -40,9 +48,10 @@ pub enum Left {
 
 // Runs
 
-// `run` by its turns: k of them, or fewer if the body ends. It starts afresh, whatever the workspace holds.
+// `run` by its turns: k of them, or fewer if the body ends. It starts afresh, whatever the workspace holds. The words of a name that is a literal are noted
+// only when a name comes that may look for them, one that begins with `0`.
 pub fn run(body: &[u8], k: usize, ws: &mut [u32], n: usize) -> Reached
-    requires { ⌜ (64 * n ≤ length (now ws)) × (n ≤ 65536) × (length (now body) ≤ 65535) ⌝ }
+    requires { ⌜ (64 * n ≤ length (now ws)) × (n ≤ 65536) × (length (now body) ≤ 65535) × (Text.well-formed (now body) ≡ true) ⌝ }
     ensures { λ r. ⌜ Ending n k (now (body .entry)) (now (ws .entry)) (now (ws .exit)) (r .words) (r .end) ⌝ }
 {
     let mut st = State {
@@ -52,6 +61,7 @@ pub fn run(body: &[u8], k: usize, ws: &mut [u32], n: usize) -> Reached
         seen: 0,
     };
     let mut words = Words::new();
+    let mut waiting = Waiting::new();
     let mut c = Cursor { at: 0 };
     let mut i = 0;
     while i < k {
@@ -62,21 +72,42 @@ pub fn run(body: &[u8], k: usize, ws: &mut [u32], n: usize) -> Reached
                 words,
             };
         }
-        if text::peek_is_digit(body, c) {
-            let named = name_turn(body, c, ws, n, st, words);
-            let got = named.turn;
-            words = named.words;
-            match got {
-                Turned::To(u, next) => {
-                    st = u;
-                    c = next;
-                    i += 1;
+        let b = body[at];
+        let held = waiting.count;
+        if text::is_digit(b) {
+            if (b == b'0') | (held == 16) {
+                words = note_waiting(body, waiting, words);
+                waiting = Waiting::new();
+                let named = name_turn(body, c, ws, n, st, words);
+                let got = named.turn;
+                words = named.words;
+                match got {
+                    Turned::To(u, next) => {
+                        st = u;
+                        c = next;
+                        i += 1;
+                    }
+                    Turned::Refused(r) => {
+                        return Reached {
+                            end: Ended::Stopped(r, at),
+                            words,
+                        };
+                    }
                 }
-                Turned::Refused(r) => {
-                    return Reached {
-                        end: Ended::Stopped(r, at),
-                        words,
-                    };
+            } else {
+                match plain_turn(body, c, ws, n, st) {
+                    PlainTurned::To(u, from, next) => {
+                        waiting = wait(waiting, from, next.at);
+                        st = u;
+                        c = next;
+                        i += 1;
+                    }
+                    PlainTurned::Refused(r) => {
+                        return Reached {
+                            end: Ended::Stopped(r, at),
+                            words,
+                        };
+                    }
                 }
             }
         } else {

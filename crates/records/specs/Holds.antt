@@ -11,7 +11,7 @@ use Rattle.definition.specs.Words as W
 use Rattle.definition.specs.Node.{Node, size}
 use Rattle.definition.specs.Machine.{machine, restack}
 use Rattle.definition.specs.Perform.{Demangler}
-use Rattle.definition.proofs.WordsAdded.{Begins}
+use Rattle.definition.proofs.WordsAdded.{Looked}
 use Rattle.budget.specs.Spent.{budget-of}
 use Rattle.records.specs.Lies.{at, Would, Lies}
 use Rattle.records.specs.declared.State.{State}
@@ -26,17 +26,18 @@ pub record Fixed (name : ℕ → String) : Type 0 where
   pub associated-type : name 133 ≡ "associated type descriptor for "
   pub past : (n : ℕ) → 134 ≤ n → name n ≡ ""
 
--- where names come from: the text, the words known by now, the fixed names by number
+-- where names come from: the text, the words that identifiers in it look for, the fixed names by number; and the words noted by now, of which the
+-- first are those that are looked for
 pub record Names : Type 0 where
   pub text : Text
   pub words : List Name
+  pub noted : List Name
   pub fixed : ℕ → String
   pub known : Fixed fixed
 
--- the number k stands for the name n: an identifier at that offset of the text, read when no more words were known than now; or, from
--- 65,536 on, a fixed name; the last number of 32 bits stands for no name, since it says that a label is missing
+-- the number k stands for the name n: an identifier at that offset of the text, whose words, if it looked for any, are known; or, from 65,536 on, a fixed name; the last number of 32 bits stands for no name, since it says that a label is missing
 pub data Named (nm : Names) (k : ℕ) (n : Name) : Type 0 where
-  spelled : (words : List Name) (r : W.Identified) (u : Text) → k < 65536 → W.identifier words (drop k (nm .text)) ≡ ok r u → Begins (r .words) (nm .words) → r .name ≡ n → Named nm k n
+  spelled : (words : List Name) (r : W.Identified) (u : Text) → k < 65536 → W.identifier words (drop k (nm .text)) ≡ ok r u → Looked (drop k (nm .text)) (r .words) (nm .words) → r .name ≡ n → Named nm k n
   fixed : 65536 ≤ k → k < 4294967295 → bytes (nm .fixed (k - 65536)) ≡ n → Named nm k n
 
 -- the sizes of trees together
@@ -89,7 +90,7 @@ pub record Holds (nm : Names) (w : List ℕ) (N : ℕ) (st : State) (sp : Spare)
   pub kept : st .seen + sp .keeps ≤ st .budget .total
   pub stack : Stack nm w (stack-base N) (st .top) (m .stack) (st .depth)
   pub substitutions : Queue nm w (seen-base N) (st .top) (m .substitutions) 0 (st .seen)
-  pub words : nm .words ≡ m .words
+  pub words : nm .noted ≡ m .words
 
 -- some machine does
 pub record Ready (w : List ℕ) (N : ℕ) (st : State) (sp : Spare) : Type 0 where

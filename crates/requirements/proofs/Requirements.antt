@@ -52,7 +52,7 @@ are-fixed = record {
 }
 
 some-names : Names
-some-names = record { text = []; words = []; fixed = some-fixed; known = are-fixed }
+some-names = record { text = []; words = []; noted = []; fixed = some-fixed; known = are-fixed }
 
 made-size : {x : (ℕ → String) → Node} {cost : ℕ} {w w′ : List ℕ} {N : ℕ} {st : State} {r : Placed} → Makes x cost w w′ N st r → at w′ (r .place) 1 ≡ size (x some-fixed)
 unfolding some-names

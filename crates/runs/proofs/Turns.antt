@@ -41,7 +41,7 @@ module _ {S : Type 0} (f : Text → S → Out S Text) (body : Text) where
         ∙ ap (stopped r) (ap length (sym (front body at h)) ∙ length-drop at body))
 
 -- brackets to the left
-inner : {S A B : Type 0} (o : Out S A) (g : Step S Done) (h : Step S B) → and-then (and-then o (λ x. g)) (λ x. h) ≡ and-then o (λ x s. and-then (g s) (λ y. h))
+pub inner : {S A B : Type 0} (o : Out S A) (g : Step S Done) (h : Step S B) → and-then (and-then o (λ x. g)) (λ x. h) ≡ and-then o (λ x s. and-then (g s) (λ y. h))
 inner (ok a s) g h = refl
 inner (refused r) g h = refl
 

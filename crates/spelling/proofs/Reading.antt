@@ -11,7 +11,7 @@ use lib.ListN.{length, getElem?}
 use Rattle.definition.specs.Base.{Name, if_then_else_, is, lower, upper, Out, ok, refused, Step, Done, ret, unless, and-then, _>>=_, _>>_}
 use Rattle.definition.specs.Text.{Text, peek, next-if, natural, well-formed}
 use Rattle.definition.specs.Words.{note-words, Spelled, spelled, word-letters, take-bytes, literal, Identified, identified, identifier-from, is-empty, identifier}
-use Rattle.definition.proofs.WordsAdded.{Begins, begins-trans, found-again, identifier-from-begins}
+use Rattle.definition.proofs.WordsAdded.{Begins, Looked, begins-trans, found-again, identifier-from-begins}
 use Rattle.pieces.specs.Pieces.{Piece, piece, end, mark, counted, of-bytes, of-length, unless-closed, literal-piece, of-word, piece-of, Lead, lead, second-zero, start, Follows, nothing, after}
 
 -- STEPS THAT ARE NOT REFUSED
@@ -94,36 +94,36 @@ module _ (vs : List Name) (punycoded : Bool) where
   literal-read more t e h = ap (unless-closed more punycoded) e ∙ ap (of-length more punycoded) (h .length-is) ∙ ap (of-bytes more) (h .bytes-are)
 
   -- LETTERS
-  module _ (ws : List Name) (later : Begins ws vs) (s : Spelled) (v : Text) (whole : Name) (tail : Completes (literal-piece (s .more) punycoded v) (s .name) whole) where
+  module _ (ws : List Name) (s : Spelled) (v : Text) (whole : Name) (tail : Completes (literal-piece (s .more) punycoded v) (s .name) whole) where
     stops : (name : Name) (more : Bool) (t : Text) → ok (spelled name more) t ≡ ok s v → Completes (literal-piece more punycoded t) name whole
     stops name more t e =
         let a : spelled name more ≡ s = cc in
         let b : t ≡ v = cc in
         subst⁻¹ (λ (x : Spelled). Completes (literal-piece (x .more) punycoded t) (x .name) whole) a (subst⁻¹ (λ (x : Text). Completes (literal-piece (s .more) punycoded x) (s .name) whole) b tail)
 
-    by-capital : (name : Name) (t : Text) (i : ℕ) →
+    by-capital : (name : Name) (t : Text) (i : ℕ) → Begins ws vs →
         _≡_ {A = Out Text Spelled} (elim (getElem? ws i) [ none ↦ refused 9 | some w ↦ ok (spelled (name ++ w) false) t ]) (ok s v) → Completes (of-word (getElem? vs i) false t) name whole
     unfolding piece-of
-    by-capital name t i e = go (getElem? ws i) (λ w k. found-again i w later k) e
+    by-capital name t i later e = go (getElem? ws i) (λ w k. found-again i w later k) e
       where
         go : (a : Option Name) → ((w : Name) → a ≡ some w → getElem? vs i ≡ some w) →
             _≡_ {A = Out Text Spelled} (elim a [ none ↦ refused 9 | some w ↦ ok (spelled (name ++ w) false) t ]) (ok s v) → Completes (of-word (getElem? vs i) false t) name whole
         go none f k = absurd (let z : _≡_ {A = ℕ} 0 1 = cc in omega arith)
         go (some w) f k = completes-is (ap (λ (o : Option Name). of-word o false t) (f w refl)) (step-back false t (stops (name ++ w) false t k))
 
-    by-small : (name : Name) (t : Text) (i : ℕ) → ((w : Name) → word-letters ws (name ++ w) t ≡ ok s v → Completes (piece-of vs true punycoded t) (name ++ w) whole) →
+    by-small : (name : Name) (t : Text) (i : ℕ) → Begins ws vs → ((w : Name) → word-letters ws (name ++ w) t ≡ ok s v → Completes (piece-of vs true punycoded t) (name ++ w) whole) →
         _≡_ {A = Out Text Spelled} (elim (getElem? ws i) [ none ↦ refused 9 | some w ↦ word-letters ws (name ++ w) t ]) (ok s v) → Completes (of-word (getElem? vs i) true t) name whole
-    by-small name t i ih e = go (getElem? ws i) (λ w k. found-again i w later k) e
+    by-small name t i later ih e = go (getElem? ws i) (λ w k. found-again i w later k) e
       where
         go : (a : Option Name) → ((w : Name) → a ≡ some w → getElem? vs i ≡ some w) →
             _≡_ {A = Out Text Spelled} (elim a [ none ↦ refused 9 | some w ↦ word-letters ws (name ++ w) t ]) (ok s v) → Completes (of-word (getElem? vs i) true t) name whole
         go none f k = absurd (let z : _≡_ {A = ℕ} 0 1 = cc in omega arith)
         go (some w) f k = completes-is (ap (λ (o : Option Name). of-word o true t) (f w refl)) (step-back true t (ih w k))
 
-    letters : (name : Name) (t : Text) → word-letters ws name t ≡ ok s v → Completes (piece-of vs true punycoded t) name whole
+    letters : Begins ws vs → (name : Name) (t : Text) → word-letters ws name t ≡ ok s v → Completes (piece-of vs true punycoded t) name whole
     unfolding word-letters piece-of
-    letters name [] e = stops name true [] e
-    letters name (c ∷ t) e = go (λ w. letters (name ++ w) t) (lower c) (upper c) e
+    letters later name [] e = stops name true [] e
+    letters later name (c ∷ t) e = go (λ w. letters later (name ++ w) t) (lower c) (upper c) e
       where
         go : ((w : Name) → word-letters ws (name ++ w) t ≡ ok s v → Completes (piece-of vs true punycoded t) (name ++ w) whole) → (l u : Bool) → _≡_ {A = Out Text Spelled} (elim l [
           | true ↦ elim (getElem? ws (c - code "a")) [ none ↦ refused 9 | some w ↦ word-letters ws (name ++ w) t ]
@@ -139,52 +139,73 @@ module _ (vs : List Name) (punycoded : Bool) where
                 | false ↦ literal-piece true punycoded (c ∷ t)
               ]
             ]) name whole
-        go ih true u k = by-small name t (c - code "a") ih k
-        go ih false true k = by-capital name t (c - code "A") k
+        go ih true u k = by-small name t (c - code "a") later ih k
+        go ih false true k = by-capital name t (c - code "A") later k
         go ih false false k = stops name true (c ∷ t) k
 
-    first-part : (subs : Bool) (name : Name) (t : Text) → (if subs then word-letters ws name else ret (spelled name false)) t ≡ ok s v → Completes (piece-of vs subs punycoded t) name whole
+    first-part : (subs : Bool) (name : Name) (t : Text) → (subs ≡ true → Begins ws vs) → (if subs then word-letters ws name else ret (spelled name false)) t ≡ ok s v → Completes (piece-of vs subs punycoded t) name whole
     unfolding piece-of
-    first-part true name t e = letters name t e
-    first-part false name t e = stops name false t e
+    first-part true name t later e = letters (later refl) name t e
+    first-part false name t later e = stops name false t e
 
   -- THE LOOP
   behind-literal : (f : ℕ) (more : Bool) (known : List Name) (before slice : Name) (t u : Text) (r : Identified) →
-      (identifier-from f true punycoded known (before ++ slice) t ≡ ok r u → Completes (piece-of vs true punycoded t) (before ++ slice) (r .name)) →
+      (more ≡ true → identifier-from f true punycoded known (before ++ slice) t ≡ ok r u → Completes (piece-of vs true punycoded t) (before ++ slice) (r .name)) →
       (if more then identifier-from f true punycoded known (before ++ slice) else ret (identified (before ++ slice) known)) t ≡ ok r u →
       Completes (piece slice more (if more then t else [])) before (r .name)
-  behind-literal f true known before slice t u r ih e = step-back true t (ih e)
+  behind-literal f true known before slice t u r ih e = step-back true t (ih refl e)
   behind-literal f false known before slice t u r ih e =
       let a : identified (before ++ slice) known ≡ r = cc in
       subst (λ (x : Identified). Completes (piece slice false []) before (x .name)) a (step-back false [] (ends no-text))
 
-  from : (f : ℕ) (subs : Bool) (ws : List Name) (name : Name) (t u : Text) (r : Identified) → identifier-from f subs punycoded ws name t ≡ ok r u → Begins (r .words) vs →
+  -- letters may follow only where they were allowed before
+  more-letters : (ws : List Name) (subs : Bool) (name : Name) (t : Text) {v : Text} {s : Spelled} → (if subs then word-letters ws name else ret (spelled name false)) t ≡ ok s v → s .more ≡ true → subs ≡ true
+  more-letters ws true name t e h = refl
+  more-letters ws false name t {s = s} e h =
+      let a : spelled name false ≡ s = cc in
+      ap (λ (x : Spelled). x .more) a ∙ h
+
+  from : (f : ℕ) (subs : Bool) (ws : List Name) (name : Name) (t u : Text) (r : Identified) → identifier-from f subs punycoded ws name t ≡ ok r u → (subs ≡ true → Begins (r .words) vs) →
       Completes (piece-of vs subs punycoded t) name (r .name)
   unfolding identifier-from
   from zero subs ws name t u r e later = absurd (let z : _≡_ {A = ℕ} 0 1 = cc in omega arith)
   from (suc f) subs ws name t u r e later =
       let a = came ((if subs then word-letters ws name else ret (spelled name false)) t) _ r u e in
       let b = came (next-if (is "0") (a .state)) _ r u (a .goes) in
-      first-part ws (begins-trans (identifier-from-begins (suc f) subs punycoded ws name t u r e) later) (a .value) (a .state) (r .name)
-      (tail (λ known before x h. from f true known before x u r h later) (a .value) (a .state) (b .state) (b .value) (b .is) (b .goes))
-      subs name t (a .is)
+      first-part ws (a .value) (a .state) (r .name)
+      (tail (λ m known before x h. from f true known before x u r h (λ _. later (more-letters ws subs name t (a .is) m))) (a .state) (b .state) (b .value) (b .is) (b .goes))
+      subs name t (λ k. begins-trans (identifier-from-begins (suc f) subs punycoded ws name t u r e) (later k)) (a .is)
     where
-      tail : ((known : List Name) (before : Name) (x : Text) → identifier-from f true punycoded known before x ≡ ok r u → Completes (piece-of vs true punycoded x) before (r .name)) →
-          (s : Spelled) (v x : Text) (closed : Bool) → next-if (is "0") v ≡ ok closed x →
+      tail : {s : Spelled} → (s .more ≡ true → (known : List Name) (before : Name) (x : Text) → identifier-from f true punycoded known before x ≡ ok r u → Completes (piece-of vs true punycoded x) before (r .name)) →
+          (v x : Text) (closed : Bool) → next-if (is "0") v ≡ ok closed x →
           (if closed then ret (identified (s .name) ws) else (literal punycoded >>= λ slice.
           if s .more then identifier-from f true punycoded (if punycoded then ws else note-words slice ws) (s .name ++ slice) else ret (identified (s .name ++ slice) (if punycoded then ws else note-words slice ws)))) x ≡ ok r u →
           Completes (literal-piece (s .more) punycoded v) (s .name) (r .name)
-      tail ih s v x true k g =
+      tail {s} ih v x true k g =
           let z : identified (s .name) ws ≡ r = cc in
           subst (λ (y : Identified). Completes (literal-piece (s .more) punycoded v) (s .name) (y .name)) z (ends (literal-closed (s .more) v k))
-      tail ih s v x false k g =
+      tail {s} ih v x false k g =
           let d = came (literal punycoded x) _ r u g in
           completes-is (literal-read (s .more) v k (measured punycoded x (d .state) (d .value) (d .is)))
           (behind-literal f (s .more) (if punycoded then ws else note-words (d .value) ws) (s .name) (d .value) (d .state) u r
-          (ih (if punycoded then ws else note-words (d .value) ws) (s .name ++ d .value) (d .state)) (d .goes))
+          (λ m. ih m (if punycoded then ws else note-words (d .value) ws) (s .name ++ d .value) (d .state)) (d .goes))
+
+-- `0` was taken where it stands
+zero-there : (t : Text) (zero₁ : Bool) {u : Text} → next-if (is "0") t ≡ ok zero₁ u → zero₁ ≡ true → peek (is "0") t ≡ true
+unfolding next-if peek
+zero-there [] zero₁ e h = let z : false ≡ zero₁ = cc in z ∙ h
+zero-there (c ∷ t) zero₁ e h = go (is "0" c) e
+  where
+    go : (b : Bool) {u : Text} → _≡_ {A = Out Text Bool} (elim b [ true ↦ ok true t | false ↦ ok false (c ∷ t) ]) (ok zero₁ u) → b ≡ true
+    go true k = refl
+    go false k = let z : false ≡ zero₁ = cc in z ∙ h
+
+first-of : (a b : Bool) → (a && b) ≡ true → a ≡ true
+first-of true b e = refl
+first-of false b e = e
 
 -- an identifier behind its lead
-pub spelled-again : (vs ws : List Name) (t u v : Text) (r : Identified) (l : Lead) → identifier ws t ≡ ok r u → Begins (r .words) vs → start t ≡ ok l v →
+pub spelled-again : (vs ws : List Name) (t u v : Text) (r : Identified) (l : Lead) → identifier ws t ≡ ok r u → Looked t (r .words) vs → start t ≡ ok l v →
     Follows vs (l .punycoded) (piece-of vs (l .more) (l .punycoded) v) (r .name)
 unfolding identifier start
 spelled-again vs ws t u v r l e later k =
@@ -197,7 +218,7 @@ spelled-again vs ws t u v r l e later k =
     let begun : start t ≡ ok (lead m (b .value)) (b .state) = then-ok second-zero (a .is) ∙ then-ok (λ p. ret (lead (a .value && not p) p)) (b .is) in
     let same-lead : lead m (b .value) ≡ l = same-value (sym begun ∙ k) in
     let same-text : b .state ≡ v = same-state (sym begun ∙ k) in
-    let h = from vs (b .value) (suc (length t)) m ws [] (b .state) (d .state) (d .value) (d .is) (subst⁻¹ (λ (x : Identified). Begins (x .words) vs) same-read later) in
+    let h = from vs (b .value) (suc (length t)) m ws [] (b .state) (d .state) (d .value) (d .is) (λ k. subst⁻¹ (λ (x : Identified). Begins (x .words) vs) same-read (later (zero-there t (a .value) (a .is) (first-of (a .value) (not (b .value)) k)))) in
     let name-is : r .name ≡ h .rest = ap (λ (x : Identified). x .name) (sym same-read) ∙ h .is in
     subst⁻¹ (Follows vs (l .punycoded) (piece-of vs (l .more) (l .punycoded) v)) name-is
     (subst (λ (x : Lead). Follows vs (x .punycoded) (piece-of vs (x .more) (x .punycoded) v) (h .rest)) same-lead

@@ -4,11 +4,12 @@ use mathlib.Core.List.{List}
 use Prim.Native.Nat.{ℕ, _*_, _≤_}
 use lib.ListN.{length}
 use Rattle.definition.specs.Text.{Text}
-use Rattle.naming.specs.Naming.{naming}
+use Rattle.naming.specs.Naming.{noted, names-of}
 use Rattle.nodes.specs.Gives.{nothing-spare}
 use Rattle.records.specs.Holds.{Ready}
 use Rattle.records.specs.declared.State as Records
 use Rattle.entries.specs.declared.State as Entries
+use Rattle.words.specs.Table.{table}
 use Rattle.words.specs.declared.Words.{Words}
 use Rattle.shape.proofs.Leaves.{sound-inside}
 use Rattle.reading.specs.Runs as Reading
@@ -22,7 +23,7 @@ module _ (N k : ℕ) (body : Text) (w w′ : List ℕ) where
   pub read-ready : (words : Words) {e : Read.Ended} {u : Records.State} → e ≡ Read-variants.Ran u → Reading.Ending N k body w w′ words e → Ready w′ N u nothing-spare
   read-ready words {e} {u} q h =
       let r : Reading.Ran N k body w w′ words u = subst (Reading.Ending N k body w w′ words) q h in
-      record { names = naming body words; machine = r .machine; holds = r .holds }
+      record { names = names-of body (noted (table body words) (r .all)); machine = r .machine; holds = r .holds }
 
   pub check-inside : {e : Checked.Ended} {u : Entries.State} → e ≡ Checked-variants.Ran u → Checking.Ending N k body w w′ e → 3 * u .depth ≤ length w′
   check-inside {e} {u} q h =

@@ -1,6 +1,8 @@
 ghost use mathlib.Core.Path.{_≡_};
+ghost use mathlib.Core.Bool.{true};
 ghost use Prim.Native.Nat.{_+_, _≤_};
 ghost use lib.ListN.{length};
+ghost use Rattle.definition.specs.Text as Text;
 // Runs the reading and the check on the lines of standard input, each stopped after a number of operators. A line is that number,
 // a space, and a body. The answer is a line of standard output: what the reading came to, a tab, and what the check came to. A run
 // that ended gives `=` and for each entry of its stack, bottom first, a space and kind, size and count with commas between them; a
@@ -11,6 +13,7 @@ use reading::Ended;
 use runs::Written;
 use text::Cursor;
 use text::Number;
+use utf8::IllFormed;
 
 fn put(n: usize) {
     io::print_decimal(1, n as u64);
@@ -81,7 +84,7 @@ fn show(out: &[u32], w: Written) {
 }
 
 fn read(body: &[u8], k: usize, ws: &mut [u32], out: &mut [u32])
-    requires { ⌜ (16384 ≤ length (now ws)) × (length (now body) ≤ 65535) ⌝ }
+    requires { ⌜ (16384 ≤ length (now ws)) × (length (now body) ≤ 65535) × (Text.well-formed (now body) ≡ true) ⌝ }
 {
     let reached = reading::run(body, k, ws, 256);
     let end = reached.end;
@@ -95,7 +98,7 @@ fn read(body: &[u8], k: usize, ws: &mut [u32], out: &mut [u32])
 }
 
 fn check(body: &[u8], k: usize, ws: &mut [u32], out: &mut [u32])
-    requires { ⌜ (16384 ≤ length (now ws)) × (length (now body) ≤ 65535) ⌝ }
+    requires { ⌜ (16384 ≤ length (now ws)) × (length (now body) ≤ 65535) × (Text.well-formed (now body) ≡ true) ⌝ }
 {
     match checking::run(body, k, ws, 256) {
         Checked::Ran(st) => {
@@ -120,15 +123,25 @@ fn room() -> [u32; 768]
     [0; 768]
 }
 
-fn run_body(body: &[u8], k: usize) {
-    if 65535 < body.len() {
-        return;
-    }
+fn run_both(body: &[u8], k: usize)
+    requires { ⌜ (length (now body) ≤ 65535) × (Text.well-formed (now body) ≡ true) ⌝ }
+{
     let mut ws = workspace();
     let mut out = room();
     read(body, k, &mut ws, &mut out);
     tab();
     check(body, k, &mut ws, &mut out);
+}
+
+// Both runs take a body that is well-formed. 4: it is not.
+fn run_body(body: &[u8], k: usize) {
+    if 65535 < body.len() {
+        return;
+    }
+    match utf8::ill_formed(body) {
+        IllFormed::At(at) => refused(Refusal::Encoding, at),
+        IllFormed::Nowhere => run_both(body, k),
+    }
 }
 
 // The body stands behind the byte at `at`.

@@ -1,6 +1,6 @@
 -- The steps behind `S`, at a place of a text. Assumes nothing.
-use mathlib.Core.Path.{_≡_, refl, ap}
-use mathlib.Core.Bool.{Bool, true, false, _&&_}
+use mathlib.Core.Path.{_≡_, ap}
+use mathlib.Core.Bool.{true, false, _&&_, and-false}
 use mathlib.Core.Option.{some, none}
 use Prim.Native.Nat.{ℕ, _≤_, _<_}
 use Prim.Native.String.{String}
@@ -25,10 +25,6 @@ module _ (repeat b : ℕ) (t : Text) where
     pub standard-other : pick b standard-modules ≡ none → standard-letter repeat b t ≡ standard-type-letter repeat b t
     unfolding standard-letter
     standard-other e = rw (standard-letter, ne-eqb b 103 n, e)
-
-and-false : (a : Bool) → (a && false) ≡ false
-and-false true = refl
-and-false false = refl
 
 module _ (n : ℕ) (t : Text) where
   in-limits : 0 < n → n ≤ 4096 → (ltb 0 n && leb n 4096) ≡ true

@@ -90,7 +90,7 @@ before-step b t true e h = let q : before-dot (b ∷ t) ≡ [] = rw (before-dot,
 before-step b t false e h = let q : before-dot (b ∷ t) ≡ b ∷ before-dot t = rw (before-dot, e) in rw q (ap (λ (l : Text). b ∷ l) h)
 
 -- what stands before the first dot is the text up to it
-before-front : (t : Text) → before-dot t ≡ take (length (before-dot t)) t
+pub before-front : (t : Text) → before-dot t ≡ take (length (before-dot t)) t
 unfolding before-dot
 before-front [] = refl
 before-front (b ∷ t) = before-step b t (is "." b) refl (before-front t)

@@ -1,6 +1,6 @@
 -- Tests of bytes that are made together, eight at a time. Assumes nothing.
 use mathlib.Core.Path.{_≡_, refl, subst}
-use mathlib.Core.Bool.{Bool, true, false, _&&_, false≢true}
+use mathlib.Core.Bool.{Bool, true, false, _&&_, and-eq-true-iff}
 use Prim.Native.Nat.{ℕ, _+_, _≤_, _<_}
 use native.Mathlib.Omega.{arith}
 use borrow.Author.Tests.{ltb-true, ltb-false}
@@ -8,10 +8,6 @@ use lib.Dec.{ltb}
 use lib.ListN.{getD}
 use Rattle.definition.specs.Text.{Text}
 use Rattle.text.specs.Each.{Each}
-
-both : (a b : Bool) → a && b ≡ true → (a ≡ true) × (b ≡ true)
-both true b e = (refl, e)
-both false b e = absurd (false≢true e)
 
 module _ (p : ℕ → Bool) (text : Text) where
   pub each-none : {at : ℕ} → Each p text at at
@@ -41,12 +37,12 @@ module _ (p : ℕ → Bool) (text : Text) where
 
   each-four : {at a b c d : ℕ} → a ≡ at + 1 → b ≡ a + 1 → c ≡ b + 1 → d ≡ c + 1 → four at a b c ≡ true → Each p text at d
   each-four ea eb ec ed e =
-      let f = both _ _ e in
-      let g = both _ _ (f .0) in
-      let h = both _ _ (g .0) in
+      let f = and-eq-true-iff _ _ .0 e in
+      let g = and-eq-true-iff _ _ .0 (f .0) in
+      let h = and-eq-true-iff _ _ .0 (g .0) in
       each-both (each-both (each-both (each-one ea (h .0)) (each-one eb (h .1))) (each-one ec (g .1))) (each-one ed (f .1))
 
   pub each-eight : (at : ℕ) → (four at (at + 1) (at + 2) (at + 3) && four (at + 4) (at + 5) (at + 6) (at + 7)) ≡ true → Each p text at (at + 8)
   each-eight at e =
-      let f = both _ _ e in
+      let f = and-eq-true-iff _ _ .0 e in
       each-both (each-four refl (omega arith) (omega arith) (omega arith) (f .0)) (each-four (omega arith) (omega arith) (omega arith) (omega arith) (f .1))

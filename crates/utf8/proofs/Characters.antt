@@ -6,10 +6,9 @@ use mathlib.Core.Option.{Option, some, none}
 use Prim.Native.Nat.{ℕ, zero, suc, _+_, _-_, _≤_, _<_}
 use native.Mathlib.Omega.{arith}
 use native.Mathlib.Numerals.{add-one}
-use native.Mathlib.Nat.{le-refl}
 use borrow.Author.Tests.{lt-ltb, le-ltb, ltb-true}
-use lib.ListN.{length, getD, take, drop, length-drop, List·getD-map}
-use lib.Seq.{drop-cons, getD-take, getD-drop, length-take-le}
+use lib.ListN.{length, getD, drop, length-drop, List·getD-map}
+use lib.Seq.{drop-cons}
 use Rattle.definition.specs.Text.{Text, Row, row, rows, between, tails, second, by-row, character, ill-formed-from, ill-formed, well-formed}
 use Rattle.utf8.specs.Utf8.{row-at, Follows, Passed, below-80}
 use Rattle.utf8.specs.declared.Behind.{Behind}
@@ -160,17 +159,6 @@ well-formed-no t e = rw (well-formed, e)
 pub well-formed-all : (t : Text) → ill-formed t ≡ none → well-formed t ≡ true
 unfolding well-formed
 well-formed-all t e = rw (well-formed, e)
-
--- a part of a text whose bytes are all below 80 is well-formed
-pub ascii-well-formed : (text : Text) (from to : ℕ) → (from ≤ to) × (to ≤ length text) → Each below-80 text from to → well-formed (take (to - from) (drop from text)) ≡ true
-ascii-well-formed text from to h e =
-    let n : length (take (to - from) (drop from text)) ≡ to - from = length-take-le (to - from) (drop from text) (omega (arith, length-drop from text, h .1)) in
-    let low : Each below-80 (take (to - from) (drop from text)) 0 (length (take (to - from) (drop from text))) = record {
-      at = λ i l r.
-          let k : i < to - from = omega (arith, n) in
-          ap below-80 (getD-take (to - from) (drop from text) i 0 k ∙ getD-drop from text i 0) ∙ e .at (from + i) (omega arith) (omega arith);
-    } in
-    well-formed-all _ (scan-end (scan-past (scan-start _) (omega arith, le-refl _, low)) (le-refl _))
 
 pub between-is : {low low′ high high′ : ℕ} (b : ℕ) → low ≡ low′ → high ≡ high′ → between low high b ≡ between low′ high′ b
 between-is {low′ = low′} {high = high} b e k = ap (λ (l : ℕ). between l high b) e ∙ ap (λ (h : ℕ). between low′ h b) k

@@ -186,38 +186,23 @@ pub fn ill_formed(text: &[u8]) -> IllFormed
     IllFormed::Nowhere
 }
 
-// Whether text[from..to] is surely all below 80. Eight bytes are tested at a time, and they may reach behind `to`; near the end of the
-// text they are its last eight. So `false` says nothing.
-fn surely_ascii(text: &[u8], from: usize, to: usize) -> bool
-    requires { ⌜ (from ≤ to) × (to ≤ length (now text)) ⌝ }
-    ensures { λ r. ⌜ (r ≡ true → Each below-80 (now (text .entry)) from to) ⌝ }
+// Whether b is a byte of 80 to BF: those of a character behind its first are such, and its first is not.
+fn is_tail(b: u8) -> bool
+    ensures { λ r. ⌜ r ≡ Text.between 0x80 0xBF b ⌝ }
 {
-    let mut at = from;
-    while at < to {
-        if text.len() - at < 8 {
-            if text.len() < 8 {
-                return false;
-            }
-            return eight_ascii(text, text.len() - 8);
-        }
-        if !eight_ascii(text, at) {
-            return false;
-        }
-        at += 8;
-    }
-    true
+    (0x80 <= b) & (b <= 0xBF)
 }
 
-// Whether text[from..to] is well-formed: it is if all of it is below 80, which is tested first.
-pub fn well_formed(text: &[u8], from: usize, to: usize) -> bool
-    requires { ⌜ (from ≤ to) × (to ≤ length (now text)) ⌝ }
+// Whether text[from..to] is well-formed, where the whole text is: it begins and ends between characters.
+pub fn between_characters(text: &[u8], from: usize, to: usize) -> bool
+    requires { ⌜ (from < to) × (to ≤ length (now text)) × (Text.well-formed (now text) ≡ true) ⌝ }
     ensures { λ r. ⌜ r ≡ Text.well-formed (take (to - from) (drop from (now (text .entry)))) ⌝ }
 {
-    if surely_ascii(text, from, to) {
-        return true;
+    if is_tail(text[from]) {
+        return false;
     }
-    match ill_formed(&text[from..to]) {
-        IllFormed::At(_) => false,
-        IllFormed::Nowhere => true,
+    if to < text.len() {
+        return !is_tail(text[to]);
     }
+    true
 }

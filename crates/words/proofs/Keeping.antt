@@ -1,6 +1,6 @@
 -- The table, and one word more. Assumes nothing.
 use mathlib.Core.Path.{_≡_, refl, sym}
-use mathlib.Core.Bool.{Bool, true, false, _&&_}
+use mathlib.Core.Bool.{true, false, _&&_, and-false}
 use mathlib.Core.List.{List, [], _∷_, _++_}
 use Prim.Native.Nat.{ℕ, zero, suc, _+_, _-_, _≤_, _<_}
 use native.Mathlib.Omega.{arith}
@@ -16,16 +16,7 @@ use Rattle.definition.specs.Words.{keep}
 use Rattle.definition.specs.Check.{keep-count}
 use Rattle.words.specs.Table.{part, words-of, table, Fitting, Holds}
 use Rattle.words.specs.declared.Words.{Words}
-use Rattle.text.proofs.Steps.{differ}
 use Rattle.words.proofs.Parts.{part-length}
-
-pub and-no : (b : Bool) → (b && false) ≡ false
-and-no true = refl
-and-no false = refl
-
-pub both-parts : (a b : Bool) → (a && b) ≡ true → (a ≡ true) × (b ≡ true)
-both-parts true b e = (refl, e)
-both-parts false b e = absurd (differ (sym e))
 
 pub length-words-of : (text : Text) (s l : List ℕ) (n : ℕ) → length (words-of text s l n) ≡ n
 unfolding words-of
@@ -53,7 +44,7 @@ module _ (word : Name) where
 
   pub keep-full : (ws : List Name) → 26 ≤ length ws → keep word ws ≡ ws
   unfolding keep
-  keep-full ws h = rw (keep, le-ltb (length ws) 26 h, and-no (leb 2 (length word)))
+  keep-full ws h = rw (keep, le-ltb (length ws) 26 h, and-false (leb 2 (length word)))
 
   pub keep-adds : (ws : List Name) → 2 ≤ length word → length ws < 26 → keep word ws ≡ ws ++ (word ∷ [])
   unfolding keep
@@ -66,7 +57,7 @@ module _ (n : ℕ) where
 
   pub count-full : (ws : ℕ) → 26 ≤ ws → keep-count n ws ≡ ws
   unfolding keep-count
-  count-full ws h = rw (keep-count, le-ltb ws 26 h, and-no (leb 2 n))
+  count-full ws h = rw (keep-count, le-ltb ws 26 h, and-false (leb 2 n))
 
   pub count-adds : (ws : ℕ) → 2 ≤ n → ws < 26 → keep-count n ws ≡ suc ws
   unfolding keep-count

@@ -2,4 +2,3 @@ pub mod Parts
 pub mod Noting
 pub mod Keeping
 pub mod Loops
-pub mod Lettering

@@ -1,6 +1,6 @@
 -- The loops of `note_words` and `count_words`. Assumes nothing.
 use mathlib.Core.Path.{_≡_, refl, sym, ap, _∙_, subst}
-use mathlib.Core.Bool.{Bool, true, false, _&&_}
+use mathlib.Core.Bool.{Bool, true, false, _&&_, and-eq-true-iff}
 use Prim.Native.Nat.{ℕ, _+_, _-_, _≤_, _<_}
 use native.Mathlib.Omega.{arith}
 use borrow.Author.Tests.{leb-true, leb-false, ltb-true, ltb-false}
@@ -15,7 +15,7 @@ use Rattle.words.specs.declared.Words.{Words}
 use Rattle.words.specs.declared.Boundary.{Boundary}
 use Rattle.words.proofs.Parts.{part-none, part-cons}
 use Rattle.text.proofs.Steps.{differ}
-use Rattle.words.proofs.Keeping.{both-parts, stored, holds-short, holds-full, holds-stored}
+use Rattle.words.proofs.Keeping.{stored, holds-short, holds-full, holds-stored}
 use Rattle.words.proofs.Noting.{note-end, count-end}
 
 -- the arrays of a table
@@ -28,7 +28,7 @@ sized-stored {w} start end z = record { starts = length-set (w .starts) (w .coun
 
 -- there is room for a word that is kept
 pub kept-room : (b : Bool) (n : ℕ) {count : ℕ} → (b && (leb 2 n && ltb count 26)) ≡ true → count < 26
-kept-room b n {count} q = ltb-true count 26 (both-parts (leb 2 n) (ltb count 26) (both-parts b (leb 2 n && ltb count 26) q .1) .1)
+kept-room b n {count} q = ltb-true count 26 (and-eq-true-iff (leb 2 n) (ltb count 26) .0 (and-eq-true-iff b (leb 2 n && ltb count 26) .0 q .1) .1)
 
 -- behind the `if` of a turn: a word has ended, or none; it is kept, or not
 module _ (text : Text) (start at : ℕ) (known : Words) where
@@ -38,7 +38,7 @@ module _ (text : Text) (start at : ℕ) (known : Words) where
   module _ (l : start ≤ at) (e : at ≤ length text) (g : Fitting text known) where
     pub kept-stored : (b : Bool) → Sized known → (b && (leb 2 (at - start) && ltb (known .count) 26)) ≡ true → Behind b (stored known start at)
     kept-stored true z q =
-        let f = both-parts (leb 2 (at - start)) (ltb (known .count) 26) q in
+        let f = and-eq-true-iff (leb 2 (at - start)) (ltb (known .count) 26) .0 q in
         let k : known .count < 26 = ltb-true (known .count) 26 (f .1) in
         let ls : known .count < length (known .starts) = rw (z .starts) k in
         let ll : known .count < length (known .lengths) = rw (z .lengths) k in

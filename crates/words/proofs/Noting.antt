@@ -1,6 +1,6 @@
 -- One byte of `note-words-from` and of `count-words-from`. Assumes nothing.
 use mathlib.Core.Path.{_≡_, refl, sym}
-use mathlib.Core.Bool.{Bool, true, false, _&&_, not}
+use mathlib.Core.Bool.{Bool, true, false, _&&_, not, and-false}
 use mathlib.Core.List.{List, [], _∷_, _++_}
 use Prim.Native.Nat.{ℕ, zero, suc, _+_, _-_, _≤_, _<_}
 use native.Mathlib.Omega.{arith}
@@ -15,7 +15,6 @@ use Rattle.text.proofs.Steps.{differ}
 use Rattle.words.specs.Table.{part, Turns}
 use Rattle.words.specs.declared.Boundary.{Boundary}
 use Rattle.words.proofs.Parts.{part-none, part-snoc, part-one, part-length}
-use Rattle.words.proofs.Keeping.{and-no}
 
 abbrev pub boundary : Bool → ℕ → Boundary
 boundary e s = record { ended = e; start = s }
@@ -96,7 +95,7 @@ no-capital false b e = e
 pub past-capitals : (b : ℕ) → 95 < b → upper b ≡ false
 past-capitals b h =
     let l : 90 < b = omega arith in
-    rw (lt-leb b 90 l) (and-no (leb 65 b))
+    rw (lt-leb b 90 l) (and-false (leb 65 b))
 
 one-more : (at : ℕ) → (at + 1) - at ≡ 1
 one-more at = omega arith

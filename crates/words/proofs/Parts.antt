@@ -4,7 +4,8 @@ use mathlib.Core.List.{[], _∷_, _++_}
 use Prim.Native.Nat.{ℕ, suc, _+_, _-_, _≤_, _<_}
 use native.Mathlib.Omega.{arith}
 use lib.ListN.{length, getD, drop, length-drop}
-use lib.Seq.{take-suc, drop-cons, getD-drop, length-take-le}
+use lib.Seq.{take-suc, drop-cons, getD-drop}
+pub use Rattle.copying.proofs.Parts.{part-length}
 use Rattle.definition.specs.Text.{Text}
 use Rattle.words.specs.Table.{part}
 
@@ -21,11 +22,6 @@ module _ (text : Text) where
 
   pub part-one : (at : ℕ) → at < length text → part text at (at + 1) ≡ getD text at 0 ∷ []
   part-one at h = let l : at ≤ at = omega arith in part-snoc at at l h ∙ ap (λ x. x ++ (getD text at 0 ∷ [])) (part-none at)
-
-  pub part-length : (from to : ℕ) → to ≤ length text → length (part text from to) ≡ to - from
-  part-length from to h =
-      let k : to - from ≤ length (drop from text) = simp length-drop (omega arith) in
-      length-take-le (to - from) (drop from text) k
 
   -- the first byte of a part, and the rest of it
   pub part-cons : (at to : ℕ) → at < to → to ≤ length text → part text at to ≡ getD text at 0 ∷ part text (at + 1) to

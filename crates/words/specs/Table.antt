@@ -1,22 +1,15 @@
 -- The word table: what its numbers say of a text (01, "Words"). Assumes nothing.
 use mathlib.Core.Path.{_≡_}
-use mathlib.Core.Bool.{Bool, _&&_, not}
 use mathlib.Core.List.{List, [], _∷_, _++_}
 use Prim.Native.Nat.{ℕ, zero, suc, _+_, _-_, _≤_, _<_}
 use lib.ListN.{length, getD, take, drop}
-use lib.Dec.{eqb, leb}
-use Rattle.definition.specs.Base.{Name, Done, if_then_else_}
+use Rattle.definition.specs.Base.{Name, if_then_else_}
 use Rattle.definition.specs.Text.{Text}
 use Rattle.definition.specs.Words as W
 use Rattle.definition.specs.Check as C
+pub use Rattle.copying.specs.Copied.{part}
 use Rattle.words.specs.declared.Words.{Words}
 use Rattle.words.specs.declared.Boundary.{Boundary}
-use Rattle.words.specs.declared.Lettered.{Lettered}
-use Rattle.words.specs.declared.Lettered.the-variants as Lettered
-
--- the bytes from one place to another
-abbrev pub part : Text → ℕ → ℕ → Name
-part text from to = take (to - from) (drop from text)
 
 -- the i-th word
 abbrev pub word-of : Text → (starts lengths : List ℕ) → ℕ → Name
@@ -55,18 +48,3 @@ pub record Turns (start at previous b : ℕ) (r : Boundary) : Type 0 where
       W.note-words-from (part text start at) previous (b ∷ t) words ≡ W.note-words-from (part text (r .start) (at + 1)) b t (if r .ended then W.keep (part text start at) words else words)
   pub counted : (t : Text) (words : ℕ) →
       C.count-words-from (at - start) previous (b ∷ t) words ≡ C.count-words-from ((at + 1) - r .start) b t (if r .ended then C.keep-count (at - start) words else words)
-
--- COUNTING
--- so many words more, of which 26 are kept
-unfoldable pub added : (known words : ℕ) → ℕ
-added known zero = known
-added known (suc n) = C.keep-count 2 (added known n)
-
--- a byte that is neither `_` nor below the capitals
-abbrev pub letter : ℕ → Bool
-letter b = leb 65 b && not (eqb b 95)
-
--- a text of letters has so many words; nothing is said of another
-abbrev pub Counts : Text → Lettered → Type 0
-Counts t (Lettered.Words n) = (known : ℕ) → C.count-words-from 0 0 t known ≡ added known n
-Counts t Lettered.Other = Done

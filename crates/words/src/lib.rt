@@ -8,7 +8,7 @@ ghost use lib.ListN.{length};
 ghost use Rattle.definition.specs.Text.{Text};
 ghost use Rattle.definition.specs.Words as W;
 ghost use Rattle.definition.specs.Check as C;
-ghost use Rattle.words.specs.Table.{part, table, Fitting, Holds, Turns, added, letter, Counts};
+ghost use Rattle.words.specs.Table.{part, table, Fitting, Holds, Turns};
 use letters::is_upper;
 use text::is_digit;
 
@@ -29,12 +29,6 @@ impl Words {
             count: 0,
         }
     }
-}
-
-// How many words a text of letters has; or it has other bytes too.
-enum Lettered {
-    Words(usize),
-    Other,
 }
 
 // Whether a word starts at b.
@@ -157,8 +151,8 @@ fn keep_count(known: usize, start: usize, end: usize) -> usize
     known
 }
 
-// How many words are known behind text[from..to], whatever bytes it has.
-fn count_turns(text: &[u8], from: usize, to: usize, count: usize) -> usize
+// How many words are known behind text[from..to].
+pub fn count_words(text: &[u8], from: usize, to: usize, count: usize) -> usize
     requires { ⌜ (from ≤ to) × ((to ≤ length (now text)) × (length (now text) ≤ 65535)) ⌝ }
     ensures { λ r. ⌜ (r ≡ C.count-words-from 0 0 (part (now (text .entry)) from to) count) × (count ≤ r) ⌝ }
 {
@@ -177,71 +171,4 @@ fn count_turns(text: &[u8], from: usize, to: usize, count: usize) -> usize
         at += 1;
     }
     keep_count(known, start, to)
-}
-
-// Whether b is no `_` and stands behind the digits: a word ends before it only if it is a capital.
-fn is_letter(b: u8) -> bool
-    ensures { λ r. ⌜ r ≡ letter b ⌝ }
-{
-    (65 <= b) & (b != 95)
-}
-
-// How many words of 2 bytes or more text[from..to] has, if all its bytes are letters. A word is counted at its second byte, so that no letter asks for
-// a branch.
-fn letter_words(text: &[u8], from: usize, to: usize) -> Lettered
-    requires { ⌜ (from < to) × ((to ≤ length (now text)) × (length (now text) ≤ 65535)) ⌝ }
-    ensures { λ r. ⌜ Counts (part (now (text .entry)) from to) r ⌝ }
-{
-    let first = text[from];
-    if !is_letter(first) {
-        return Lettered::Other;
-    }
-    let mut words: usize = 0;
-    let mut one = true;
-    let mut previous = first <= 90;
-    let mut at = from + 1;
-    while at < to {
-        let b = text[at];
-        if !is_letter(b) {
-            return Lettered::Other;
-        }
-        let capital = b <= 90;
-        let begins = capital & !previous;
-        if one & !begins {
-            words += 1;
-        }
-        one = begins;
-        previous = capital;
-        at += 1;
-    }
-    Lettered::Words(words)
-}
-
-// So many words more than were known before, up to 26.
-fn add_words(before: usize, words: usize) -> usize
-    ensures { λ r. ⌜ (r ≡ added before words) × (before ≤ r) ⌝ }
-{
-    if 26 <= before {
-        return before;
-    }
-    if 26 - before <= words {
-        return 26;
-    }
-    before + words
-}
-
-// How many words are known behind text[from..to].
-pub fn count_words(text: &[u8], from: usize, to: usize, count: usize) -> usize
-    requires { ⌜ (from ≤ to) × ((to ≤ length (now text)) × (length (now text) ≤ 65535)) ⌝ }
-    ensures { λ r. ⌜ (r ≡ C.count-words-from 0 0 (part (now (text .entry)) from to) count) × (count ≤ r) ⌝ }
-{
-    if from < to {
-        match letter_words(text, from, to) {
-            Lettered::Words(words) => {
-                return add_words(count, words);
-            }
-            Lettered::Other => {}
-        }
-    }
-    count_turns(text, from, to, count)
 }

@@ -2,14 +2,11 @@ use mathlib.Core.Path.{subst}
 use native.Mathlib.Omega.{arith}
 use Rattle.definition.specs.Text.{ill-formed}
 use Rattle.utf8.specs.Utf8.{Placed}
+use Rattle.utf8.proofs.Characters.{well-formed-all}
 use Rattle.admission.proofs.Tests.{needed, ceiling-zero, ceiling-past, workspace-short, text-long, text-ill-formed, well-formed}
 use borrow.Author.Needs.{needs}
 use Rattle.admission.proofs.admit.Statement.{statement}
 use Rattle.admission.proofs.admit.Tie as tie
-use Rattle.admission.proofs.admit.Reads as reads
-use Rattle.admission.proofs.admit.Lts as lts
-use Rattle.admission.proofs.body_of.Reads as body-of-reads
-use Rattle.utf8.proofs.ill_formed.Reads as ill-formed-reads
 
 -- src/lib.rt:35:9
 returns : tie.Need-returns
@@ -45,7 +42,7 @@ enum-told c = search needs
 
 -- src/lib.rt:48:31
 body-of-requires : tie.Need-body-of-requires
-body-of-requires c κs = search needs
+body-of-requires c κs = well-formed-all (c .before .before .before .before .before .before .before .before .args .text .now) (subst (Placed (ill-formed (c .before .before .before .before .before .before .before .before .args .text .now))) (c .enum-told .given .1) (c .before .before .ill-formed .ensures))
 
 -- src/lib.rt:30:1
 returns-5 : tie.Need-returns-5

@@ -5,9 +5,6 @@ use Rattle.admission.proofs.Tests.{symbol-parts, symbol-not, type-whole
 use borrow.Author.Needs.{needs}
 use Rattle.admission.proofs.body_of.Statement.{statement}
 use Rattle.admission.proofs.body_of.Tie as tie
-use Rattle.admission.proofs.body_of.Reads as reads
-use Rattle.admission.proofs.body_of.Lts as lts
-use Rattle.symbols.proofs.split.Reads as split-reads
 
 -- src/lib.rt:21:32
 enum-told : tie.Need-enum-told
@@ -31,7 +28,7 @@ enum-told-3 c = search needs
 
 -- src/lib.rt:17:1
 returns : tie.Need-returns
-returns c = symbol-parts (c .before .before .before .before .before .before .before .args .text .now) _ _ (c .before .before .before .before .enum-told .given .1) (subst (SplitIs (split (c .before .before .before .before .before .before .before .args .text .now)) (c .before .before .before .before .before .before .before .args .text .now)) (c .before .start .given .1) (c .before .before .before .split .ensures))
+returns c = symbol-parts (c .before .before .before .before .before .before .before .args .text .now) (c .before .before .before .before .before .before .before .pre) _ _ (c .before .before .before .before .enum-told .given .1) (subst (SplitIs (split (c .before .before .before .before .before .before .before .args .text .now)) (c .before .before .before .before .before .before .before .args .text .now)) (c .before .start .given .1) (c .before .before .before .split .ensures))
 
 -- src/lib.rt:17:1
 returns-2 : tie.Need-returns-2
@@ -39,7 +36,7 @@ returns-2 c = symbol-not (c .before .before .before .before .before .before .arg
 
 -- src/lib.rt:17:1
 returns-3 : tie.Need-returns-3
-returns-3 c = type-whole (c .before .before .before .args .text .now) (c .enum-told3 .given .1)
+returns-3 c = type-whole (c .before .before .before .args .text .now) (c .before .before .before .pre) (c .enum-told3 .given .1)
 
 pub body-of-spec : {M : Type 1} → statement M
 body-of-spec =

@@ -5,12 +5,6 @@ use lib.ListN.{length}
 use borrow.Author.Needs.{needs}
 use Rattle.alike.proofs.judged_alike.Statement.{statement}
 use Rattle.alike.proofs.judged_alike.Tie as tie
-use Rattle.alike.proofs.judged_alike.Reads as reads
-use Rattle.alike.proofs.judged_alike.Lts as lts
-use Rattle.alike.proofs.symbol_stopped.Reads as symbol-stopped-reads
-use Rattle.alike.proofs.symbol_whole.Reads as symbol-whole-reads
-use Rattle.alike.proofs.type_stopped.Reads as type-stopped-reads
-use Rattle.alike.proofs.type_whole.Reads as type-whole-reads
 
 -- src/lib.rt:98:9
 symbol-whole-requires : tie.Need-symbol-whole-requires

@@ -5,11 +5,6 @@ use Rattle.definition.specs.Check as Check
 use borrow.Author.Needs.{needs}
 use Rattle.alike.proofs.symbol_stopped.Statement.{statement}
 use Rattle.alike.proofs.symbol_stopped.Tie as tie
-use Rattle.alike.proofs.symbol_stopped.Reads as reads
-use Rattle.alike.proofs.symbol_stopped.Lts as lts
-use Rattle.agreement.proofs.stopped_agrees.Reads as stopped-agrees-reads
-use Rattle.swift_demangle.proofs.demangle_stopped.Reads as demangle-stopped-reads
-use Rattle.swift_shape.proofs.shape_stopped.Reads as shape-stopped-reads
 
 -- src/lib.rt:52:9
 demangle-stopped-requires : tie.Need-demangle-stopped-requires

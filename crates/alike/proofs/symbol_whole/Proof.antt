@@ -3,11 +3,6 @@ use Rattle.definition.specs.Enums.{values}
 use borrow.Author.Needs.{needs}
 use Rattle.alike.proofs.symbol_whole.Statement.{statement}
 use Rattle.alike.proofs.symbol_whole.Tie as tie
-use Rattle.alike.proofs.symbol_whole.Reads as reads
-use Rattle.alike.proofs.symbol_whole.Lts as lts
-use Rattle.agreement.proofs.whole_agrees.Reads as whole-agrees-reads
-use Rattle.swift_demangle.proofs.demangle.Reads as demangle-reads
-use Rattle.swift_shape.proofs.shape.Reads as shape-reads
 
 -- src/lib.rt:22:9
 demangle-requires : tie.Need-demangle-requires

@@ -5,11 +5,6 @@ use Rattle.definition.specs.Check as Check
 use borrow.Author.Needs.{needs}
 use Rattle.alike.proofs.type_stopped.Statement.{statement}
 use Rattle.alike.proofs.type_stopped.Tie as tie
-use Rattle.alike.proofs.type_stopped.Reads as reads
-use Rattle.alike.proofs.type_stopped.Lts as lts
-use Rattle.agreement.proofs.stopped_agrees.Reads as stopped-agrees-reads
-use Rattle.swift_demangle.proofs.demangle_type_stopped.Reads as demangle-type-stopped-reads
-use Rattle.swift_shape.proofs.shape_type_stopped.Reads as shape-type-stopped-reads
 
 -- src/lib.rt:74:9
 demangle-type-stopped-requires : tie.Need-demangle-type-stopped-requires

@@ -3,11 +3,6 @@ use Rattle.definition.specs.Enums.{values}
 use borrow.Author.Needs.{needs}
 use Rattle.alike.proofs.type_whole.Statement.{statement}
 use Rattle.alike.proofs.type_whole.Tie as tie
-use Rattle.alike.proofs.type_whole.Reads as reads
-use Rattle.alike.proofs.type_whole.Lts as lts
-use Rattle.agreement.proofs.whole_agrees.Reads as whole-agrees-reads
-use Rattle.swift_demangle.proofs.demangle_type.Reads as demangle-type-reads
-use Rattle.swift_shape.proofs.shape_type.Reads as shape-type-reads
 
 -- src/lib.rt:36:9
 demangle-type-requires : tie.Need-demangle-type-requires

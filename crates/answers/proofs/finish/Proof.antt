@@ -2,11 +2,6 @@ use Rattle.answers.proofs.Ends.{was-at, was-nothing, left-world, left-p
 use borrow.Author.Needs.{needs}
 use Rattle.answers.proofs.finish.Statement.{statement}
 use Rattle.answers.proofs.finish.Tie as tie
-use Rattle.answers.proofs.finish.Reads as reads
-use Rattle.answers.proofs.finish.Lts as lts
-use Rattle.endings.proofs.measured.Reads as measured-reads
-use Rattle.printing.proofs.render.Reads as render-reads
-use Rattle.reading.proofs.single.Reads as single-reads
 
 -- src/lib.rt:72:11
 single-requires : tie.Need-single-requires

@@ -4,10 +4,6 @@ use Rattle.endings.proofs.Ends.{body-short, suffix-is}
 use borrow.Author.Needs.{needs}
 use Rattle.answers.proofs.read_body.Statement.{statement}
 use Rattle.answers.proofs.read_body.Tie as tie
-use Rattle.answers.proofs.read_body.Reads as reads
-use Rattle.answers.proofs.read_body.Lts as lts
-use Rattle.answers.proofs.finish.Reads as finish-reads
-use Rattle.reading.proofs.run.Reads as run-reads
 
 -- src/lib.rt:98:16
 sub-body : tie.Need-sub-body
@@ -23,7 +19,7 @@ part-body-end c = search needs
 
 -- src/lib.rt:99:9
 run-requires : tie.Need-run-requires
-run-requires c κs = (omega (arith, c .before .before .before .before .before .pre .4), c .before .before .before .before .before .pre .3, body-short (c .before .before .before .before .before .args .text .now) (c .before .before .before .before .before .args .start) (c .before .before .before .before .before .args .end) (c .before .before .before .before .before .pre .2))
+run-requires c κs = (omega (arith, c .before .before .before .before .before .pre .4), c .before .before .before .before .before .pre .3, body-short (c .before .before .before .before .before .args .text .now) (c .before .before .before .before .before .args .start) (c .before .before .before .before .before .args .end) (c .before .before .before .before .before .pre .2), c .before .before .before .before .before .pre .5)
 
 -- src/lib.rt:103:20
 enum-known-ended : tie.Need-enum-known-ended

@@ -4,11 +4,6 @@ use Rattle.endings.proofs.Ends.{body-short}
 use borrow.Author.Needs.{needs}
 use Rattle.answers.proofs.read_stopped_body.Statement.{statement}
 use Rattle.answers.proofs.read_stopped_body.Tie as tie
-use Rattle.answers.proofs.read_stopped_body.Reads as reads
-use Rattle.answers.proofs.read_stopped_body.Lts as lts
-use Rattle.endings.proofs.stacked.Reads as stacked-reads
-use Rattle.reading.proofs.run.Reads as run-reads
-use Rattle.reading.proofs.write_stack.Reads as write-stack-reads
 
 -- src/lib.rt:124:32
 sub-run : tie.Need-sub-run
@@ -24,7 +19,7 @@ part-run-end c = search needs
 
 -- src/lib.rt:124:9
 run-requires : tie.Need-run-requires
-run-requires c κs = (omega (arith, c .before .before .before .before .before .pre .4), c .before .before .before .before .before .pre .3, body-short (c .before .before .before .before .before .args .text .now) (c .before .before .before .before .before .args .start) (c .before .before .before .before .before .args .end) (c .before .before .before .before .before .pre .2))
+run-requires c κs = (omega (arith, c .before .before .before .before .before .pre .4), c .before .before .before .before .before .pre .3, body-short (c .before .before .before .before .before .args .text .now) (c .before .before .before .before .before .args .start) (c .before .before .before .before .before .args .end) (c .before .before .before .before .before .pre .2), c .before .before .before .before .before .pre .5)
 
 -- src/lib.rt:127:20
 enum-known-ended : tie.Need-enum-known-ended

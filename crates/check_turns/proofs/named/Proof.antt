@@ -13,7 +13,7 @@ read : (c : tie.After-count) → Counts (Ch.identifier (c .before .before .befor
 read c = subst (Counted (Ch.identifier (c .before .before .before .before .before .args .st .words) (drop (c .before .before .before .before .before .args .c .at) (c .before .before .before .before .before .args .text .now))) (c .before .before .before .before .before .args .text .now) (c .before .before .before .before .before .args .c .at)) (c .count .given .1) (c .before .before .identifier-count .ensures)
 
 identifier-count-requires : tie.Need-identifier-count-requires
-identifier-count-requires c κs = (c .before .before .pre .1, c .before .before .pre .2)
+identifier-count-requires c κs = (c .before .before .pre .1, c .before .before .pre .2, c .before .before .pre .3)
 
 enum-known-count : tie.Need-enum-known-count
 enum-known-count c = search needs

@@ -6,12 +6,6 @@ use Rattle.copies.proofs.Copies.{copies-room, copied-done, copied-refus
 use borrow.Author.Needs.{needs}
 use Rattle.copies.proofs.copied.Statement.{statement}
 use Rattle.copies.proofs.copied.Tie as tie
-use Rattle.copies.proofs.copied.Reads as reads
-use Rattle.copies.proofs.copied.Lts as lts
-use Rattle.budget.proofs.Budget.charge_copies.Reads as charge-copies-reads
-use Rattle.copies.proofs.push_copies.Reads as push-copies-reads
-use Rattle.records.proofs.field.Reads as field-reads
-use Rattle.records.proofs.wide.Reads as wide-reads
 
 -- src/lib.rt:90:30
 field-requires : tie.Need-field-requires

@@ -3,12 +3,6 @@ use Rattle.copies.proofs.LeafNodes.{leaf-is, module-leaf, standard-leaf
 use borrow.Author.Needs.{needs}
 use Rattle.copies.proofs.leaf.Statement.{statement}
 use Rattle.copies.proofs.leaf.Tie as tie
-use Rattle.copies.proofs.leaf.Reads as reads
-use Rattle.copies.proofs.leaf.Lts as lts
-use Rattle.copies.proofs.lone.Reads as lone-reads
-use Rattle.nodes.proofs.fixed_number.Reads as fixed-number-reads
-use Rattle.nodes.proofs.generic_param.Reads as generic-param-reads
-use Rattle.nodes.proofs.standard_nominal.Reads as standard-nominal-reads
 
 -- src/lib.rt:49:22
 enum-known-l : tie.Need-enum-known-l

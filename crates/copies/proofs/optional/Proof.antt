@@ -6,11 +6,6 @@ use Rattle.copies.proofs.LeafNodes.{given-tree, optional-done, optional
 use borrow.Author.Needs.{needs}
 use Rattle.copies.proofs.optional.Statement.{statement}
 use Rattle.copies.proofs.optional.Tie as tie
-use Rattle.copies.proofs.optional.Reads as reads
-use Rattle.copies.proofs.optional.Lts as lts
-use Rattle.copies.proofs.optional_of.Reads as optional-of-reads
-use Rattle.nodes.proofs.pop_if.Reads as pop-if-reads
-use Rattle.nodes.proofs.wrap.Reads as wrap-reads
 
 -- src/lib.rt:164:11
 wrap-requires : tie.Need-wrap-requires

@@ -8,13 +8,6 @@ use Rattle.copies.proofs.LeafNodes.{made-ready, enum-made, tree-ready, 
 use borrow.Author.Needs.{needs}
 use Rattle.copies.proofs.optional_of.Statement.{statement}
 use Rattle.copies.proofs.optional_of.Tie as tie
-use Rattle.copies.proofs.optional_of.Reads as reads
-use Rattle.copies.proofs.optional_of.Lts as lts
-use Rattle.copies.proofs.copied.Reads as copied-reads
-use Rattle.nodes.proofs.standard_nominal.Reads as standard-nominal-reads
-use Rattle.records.proofs.field.Reads as field-reads
-use Rattle.records.proofs.grow.Reads as grow-reads
-use Rattle.records.proofs.remember.Reads as remember-reads
 
 -- src/lib.rt:134:9
 standard-nominal-requires : tie.Need-standard-nominal-requires

@@ -6,9 +6,6 @@ use Rattle.copies.specs.Copying.{Pushes}
 use Rattle.copies.proofs.Copies.{no-pushes, one-push, pushes-to, push-room}
 use Rattle.copies.proofs.push_copies.Statement.{statement}
 use Rattle.copies.proofs.push_copies.Tie as tie
-use Rattle.copies.proofs.push_copies.Reads as reads
-use Rattle.copies.proofs.push_copies.Lts as lts
-use Rattle.records.proofs.push.Reads as push-reads
 
 abbrev Inv-loop : tie.InvT-loop
 Inv-loop ws₀ n times p next₀ i₀ ws next i = Pushes ws₀ ws n next₀ next p i × (i ≤ times)

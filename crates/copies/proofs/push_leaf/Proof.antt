@@ -5,10 +5,6 @@ use Rattle.copies.proofs.LeafNodes.{made-ready, leaf-pushed}
 use borrow.Author.Needs.{needs}
 use Rattle.copies.proofs.push_leaf.Statement.{statement}
 use Rattle.copies.proofs.push_leaf.Tie as tie
-use Rattle.copies.proofs.push_leaf.Reads as reads
-use Rattle.copies.proofs.push_leaf.Lts as lts
-use Rattle.copies.proofs.leaf.Reads as leaf-reads
-use Rattle.records.proofs.push.Reads as push-reads
 
 -- src/lib.rt:65:9
 leaf-requires : tie.Need-leaf-requires

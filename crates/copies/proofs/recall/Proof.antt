@@ -3,10 +3,6 @@ use Rattle.copies.proofs.Copies.{recall-ready, recall-past, recalled}
 use borrow.Author.Needs.{needs}
 use Rattle.copies.proofs.recall.Statement.{statement}
 use Rattle.copies.proofs.recall.Tie as tie
-use Rattle.copies.proofs.recall.Reads as reads
-use Rattle.copies.proofs.recall.Lts as lts
-use Rattle.copies.proofs.copied.Reads as copied-reads
-use Rattle.records.proofs.wide.Reads as wide-reads
 
 -- src/lib.rt:122:9
 returns : tie.Need-returns

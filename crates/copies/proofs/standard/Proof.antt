@@ -4,10 +4,6 @@ use Rattle.copies.proofs.LeafNodes.{made-ready, leaf-copied}
 use borrow.Author.Needs.{needs}
 use Rattle.copies.proofs.standard.Statement.{statement}
 use Rattle.copies.proofs.standard.Tie as tie
-use Rattle.copies.proofs.standard.Reads as reads
-use Rattle.copies.proofs.standard.Lts as lts
-use Rattle.copies.proofs.copied.Reads as copied-reads
-use Rattle.copies.proofs.leaf.Reads as leaf-reads
 
 -- src/lib.rt:111:9
 leaf-requires : tie.Need-leaf-requires

@@ -21,15 +21,15 @@ returns c =
 add-to : tie.Need-add-to
 add-to c = search needs
 
-well-formed-requires : tie.Need-well-formed-requires
-well-formed-requires c κs = search needs
+between-characters-requires : tie.Need-between-characters-requires
+between-characters-requires c κs = search needs
 
 returns-2 : tie.Need-returns-2
 returns-2 c =
     let x = c .before .before .before .before .args .text .now in
     let a = c .before .before .before .before .args in
     let h : a .c .at + a .n ≤ length x = omega arith in
-    record { is = slice-whole x (a .c .at) (a .n) h (sym (c .before .well-formed .ensures) ∙ c .if2 .taken); onward = omega arith; some = omega arith; inside = h }
+    record { is = slice-whole x (a .c .at) (a .n) h (sym (c .before .between-characters .ensures) ∙ c .if2 .taken); onward = omega arith; some = omega arith; inside = h }
 
 returns-3 : tie.Need-returns-3
 unfolding number
@@ -37,8 +37,8 @@ returns-3 c =
     let x = c .before .before .before .before .args .text .now in
     let a = c .before .before .before .before .args in
     let h : a .c .at + a .n ≤ length x = omega arith in
-    slice-ill x (a .c .at) (a .n) h (sym (c .before .well-formed .ensures) ∙ c .if2 .left)
+    slice-ill x (a .c .at) (a .n) h (sym (c .before .between-characters .ensures) ∙ c .if2 .left)
 
 pub bytes-of-spec : {M : Type 1} → statement M
 bytes-of-spec =
-    tie.close (tie.spec sub-if1 returns add-to well-formed-requires returns-2 returns-3)
+    tie.close (tie.spec sub-if1 returns add-to between-characters-requires returns-2 returns-3)

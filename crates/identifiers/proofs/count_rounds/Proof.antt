@@ -32,7 +32,7 @@ loop-holds c =
     running-first (λ (n : ℕ). n) (count-words-from 0 0) (a .punycoded) (a .text .now) (a .count) (a .subs) (a .c .at) (c .before .pre .0)
 
 round-of-requires : tie.Need-round-of-requires Inv-loop μ-loop
-round-of-requires c κs = c .loop .inv .inside
+round-of-requires c κs = (c .loop .inv .inside, c .before .before .pre .2)
 
 enum-known-e : tie.Need-enum-known-e Inv-loop μ-loop
 enum-known-e c = search needs

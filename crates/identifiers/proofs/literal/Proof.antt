@@ -33,7 +33,7 @@ next-if-requires : tie.Need-next-if-requires
 next-if-requires c κs = counted (c .before .before .before) .inside
 
 bytes-of-requires : tie.Need-bytes-of-requires
-bytes-of-requires c κs = (c .before .next-if .ensures .inside, omega arith)
+bytes-of-requires c κs = (c .before .next-if .ensures .inside, omega arith, c .before .before .before .before .before .before .before .before .before .pre)
 
 returns-2 : tie.Need-returns-2
 returns-2 c =
@@ -45,7 +45,7 @@ returns-2 c =
     extends-is x (ap (λ (p : Bool). literal p (drop (a .c .at) x)) (c .before .before .before .if2 .taken) ∙ literal-punycoded (drop (a .c .at) x) k (g .is) (c .before .before .next-if .ensures .is)) l (c .bytes-of .result) (c .bytes-of .ensures)
 
 bytes-of-requires-2 : tie.Need-bytes-of-requires-2
-bytes-of-requires-2 c κs = (counted (c .before .before .before) .inside, omega arith)
+bytes-of-requires-2 c κs = (counted (c .before .before .before) .inside, omega arith, c .before .before .before .before .before .before .before .pre)
 
 enum-known-f : tie.Need-enum-known-f
 enum-known-f c = search needs

@@ -27,7 +27,7 @@ enum-known-e : tie.Need-enum-known-e
 enum-known-e c = search needs
 
 close-or-take-requires-2 : tie.Need-close-or-take-requires-2
-close-or-take-requires-2 c κs = letters-read (c .before .before .before .before .before .before .args .text .now) (c .before .before .before .before .before .before .args .c .at) (c .before .e .given .1) (c .before .before .before .word-letters .ensures) .inside
+close-or-take-requires-2 c κs = (letters-read (c .before .before .before .before .before .before .args .text .now) (c .before .before .before .before .before .before .args .c .at) (c .before .e .given .1) (c .before .before .before .word-letters .ensures) .inside, c .before .before .before .before .before .before .pre .1)
 
 enum-known-f : tie.Need-enum-known-f
 enum-known-f c = search needs

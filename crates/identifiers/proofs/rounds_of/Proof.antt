@@ -34,7 +34,7 @@ loop-holds c =
     (running-first length note-words (a .punycoded) x (table x (a .w)) (a .subs) (a .c .at) (c .before .pre .0), c .before .pre .1 .1)
 
 round-of-requires : tie.Need-round-of-requires Inv-loop μ-loop
-round-of-requires c κs = c .loop .inv .0 .inside
+round-of-requires c κs = (c .loop .inv .0 .inside, c .before .before .pre .2)
 
 enum-known-e : tie.Need-enum-known-e Inv-loop μ-loop
 enum-known-e c = search needs

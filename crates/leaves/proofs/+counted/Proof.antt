@@ -46,7 +46,7 @@ counted-show-place-requires t c κs = search needs
 
 -- src/main.rt:130:13
 counted-counted-requires : (t : ℕ) → counted-lts.Need-counted-requires (counted-claims t) (counted-at t) counted.Post
-counted-counted-requires t c κs = let r = count-read (now (c .before .before .before .before .before .before .before .args .text)) (c .before .before .before .before .before .before .before .args .at) (c .before .before .n .given .1) (c .before .before .before .before .identifier-count .ensures) in (omega (arith, r .onward, r .inside), (r .inside, search needs))
+counted-counted-requires t c κs = let r = count-read (now (c .before .before .before .before .before .before .before .args .text)) (c .before .before .before .before .before .before .before .args .at) (c .before .before .n .given .1) (c .before .before .before .before .identifier-count .ensures) in (omega (arith, r .onward, r .inside), (r .inside, search needs, search needs))
 
 -- src/main.rt:132:28
 counted-enum-known-f : (t : ℕ) → counted-lts.Need-enum-known-f (counted-claims t) (counted-at t) counted.Post

@@ -48,7 +48,7 @@ identifiers-show-place-requires t c κs = search needs
 
 -- src/main.rt:113:13
 identifiers-identifiers-requires : (t : ℕ) → identifiers-lts.Need-identifiers-requires (identifiers-claims t) (identifiers-at t) identifiers.Post
-identifiers-identifiers-requires t c κs = let r = identifier-read (now (c .before .before .before .before .before .before .before .before .args .text)) (c .before .before .before .before .before .before .before .before .args .at) (c .before .before .read .given .1) (c .before .before .before .before .before .identifier .ensures) in (omega (arith, r .onward, r .inside), (r .inside, search needs, c .before .before .before .before .before .identifier .ensures .fitting))
+identifiers-identifiers-requires t c κs = let r = identifier-read (now (c .before .before .before .before .before .before .before .before .args .text)) (c .before .before .before .before .before .before .before .before .args .at) (c .before .before .read .given .1) (c .before .before .before .before .before .identifier .ensures) in (omega (arith, r .onward, r .inside), (r .inside, search needs, c .before .before .before .before .before .identifier .ensures .fitting, search needs))
 
 -- src/main.rt:115:27
 identifiers-enum-known-read-2 : (t : ℕ) → identifiers-lts.Need-enum-known-read-2 (identifiers-claims t) (identifiers-at t) identifiers.Post

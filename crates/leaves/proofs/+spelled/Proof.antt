@@ -55,7 +55,7 @@ spelled-show-name-requires t c κs = search needs
 
 -- src/main.rt:164:13
 spelled-spelled-requires : (t : ℕ) → spelled-lts.Need-spelled-requires (spelled-claims t) (spelled-at t) spelled.Post
-spelled-spelled-requires t c κs = let r = identifier-read (now (c .before .before .before .before .before .before .before .before .before .before .before .args .text)) (c .before .before .before .before .before .before .before .before .before .before .before .args .at) (c .before .before .before .before .before .read .given .1) (c .before .before .before .before .before .before .before .before .identifier .ensures) in (omega (arith, r .onward, r .inside), (r .inside, search needs, c .before .before .before .before .before .before .before .before .identifier .ensures .fitting))
+spelled-spelled-requires t c κs = let r = identifier-read (now (c .before .before .before .before .before .before .before .before .before .before .before .args .text)) (c .before .before .before .before .before .before .before .before .before .before .before .args .at) (c .before .before .before .before .before .read .given .1) (c .before .before .before .before .before .before .before .before .identifier .ensures) in (omega (arith, r .onward, r .inside), (r .inside, search needs, c .before .before .before .before .before .before .before .before .identifier .ensures .fitting, search needs))
 
 -- src/main.rt:166:27
 spelled-enum-known-read-2 : (t : ℕ) → spelled-lts.Need-enum-known-read-2 (spelled-claims t) (spelled-at t) spelled.Post

@@ -1,55 +1,82 @@
+use mathlib.Core.Path.{_≡_, subst}
+use mathlib.Core.Bool.{true}
 use denote.Ref.{now}
 use borrow.Author.Needs.{needs}
+use Rattle.definition.specs.Text.{ill-formed, well-formed}
+use Rattle.utf8.specs.Utf8.{Placed}
+use Rattle.utf8.proofs.Characters.{well-formed-all}
 use Rattle.leaves.proofs.run_words.Statement.{statement}
 use Rattle.leaves.proofs.run_words.Tie as tie
-use Rattle.leaves.proofs.run_words.Reads as reads
-use Rattle.leaves.proofs.run_words.Lts as lts
-use Rattle.leaves.proofs.counted.Reads as counted-reads
-use Rattle.leaves.proofs.identifiers.Reads as identifiers-reads
-use Rattle.leaves.proofs.spelled.Reads as spelled-reads
-use Rattle.words.proofs.Words.new.Reads as new-reads
 
--- src/main.rt:160:9
+-- the text has no ill-formed sequence
+whole : (c : tie.After-enum-told2) → well-formed (now (c .before .before .before .before .before .args .text)) ≡ true
+whole c = well-formed-all (now (c .before .before .before .before .before .args .text)) (subst (Placed (ill-formed (now (c .before .before .before .before .before .args .text)))) (c .enum-told2 .given .1) (c .before .before .ill-formed .ensures))
+
+-- src/main.rt:166:9
 returns : tie.Need-returns
 returns c = search needs
 
--- src/main.rt:163:38
+-- src/main.rt:168:11
+ill-formed-requires : tie.Need-ill-formed-requires
+ill-formed-requires c κs = search needs
+
+-- src/main.rt:169:37
+enum-told : tie.Need-enum-told
+enum-told c = search needs
+
+-- src/main.rt:169:29
+refused-requires : tie.Need-refused-requires
+refused-requires c κs = search needs
+
+-- src/main.rt:170:31
+enum-told-2 : tie.Need-enum-told-2
+enum-told-2 c = search needs
+
+-- src/main.rt:171:42
 new-requires : tie.Need-new-requires
 new-requires c κs = search needs
 
--- src/main.rt:163:17
+-- src/main.rt:171:21
 identifiers-requires : tie.Need-identifiers-requires
-identifiers-requires c κs = (search needs, search needs, c .new .ensures (now (c .before .before .before .before .args .text)) .1)
+identifiers-requires c κs = (search needs, search needs, c .new .ensures (now (c .before .before .before .before .before .before .before .args .text)) .1, whole (c .before .before))
 
--- src/main.rt:164:34
+-- src/main.rt:172:38
 new-requires-2 : tie.Need-new-requires-2
 new-requires-2 c κs = search needs
 
--- src/main.rt:164:17
+-- src/main.rt:172:21
 spelled-requires : tie.Need-spelled-requires
-spelled-requires c κs = (search needs, search needs, c .new2 .ensures (now (c .before .before .before .before .args .text)) .1)
+spelled-requires c κs = (search needs, search needs, c .new2 .ensures (now (c .before .before .before .before .before .before .before .args .text)) .1, whole (c .before .before))
 
--- src/main.rt:165:14
+-- src/main.rt:173:18
 counted-requires : tie.Need-counted-requires
-counted-requires c κs = search needs
+counted-requires c κs = (search needs, search needs, whole (c .before))
 
--- src/main.rt:158:1
+-- src/main.rt:164:1
 returns-2 : tie.Need-returns-2
 returns-2 c = search needs
 
--- src/main.rt:158:1
+-- src/main.rt:164:1
 returns-3 : tie.Need-returns-3
 returns-3 c = search needs
 
--- src/main.rt:158:1
+-- src/main.rt:164:1
 returns-4 : tie.Need-returns-4
 returns-4 c = search needs
+
+-- src/main.rt:164:1
+returns-5 : tie.Need-returns-5
+returns-5 c = search needs
 
 pub run-words-spec : {M : Type 1} → statement M
 run-words-spec =
     tie.close
     (tie.spec
     returns
+    ill-formed-requires
+    enum-told
+    refused-requires
+    enum-told-2
     new-requires
     identifiers-requires
     new-requires-2
@@ -57,4 +84,5 @@ run-words-spec =
     counted-requires
     returns-2
     returns-3
-    returns-4)
+    returns-4
+    returns-5)

@@ -5,10 +5,6 @@ use Rattle.performing.proofs.Dispatch.{built-place, built-refused, func
 use borrow.Author.Needs.{needs}
 use Rattle.performing.proofs.function_type.Statement.{statement}
 use Rattle.performing.proofs.function_type.Tie as tie
-use Rattle.performing.proofs.function_type.Reads as reads
-use Rattle.performing.proofs.function_type.Lts as lts
-use Rattle.nodes.proofs.function_type.Reads as function-type-reads
-use Rattle.records.proofs.push.Reads as push-reads
 
 -- src/lib.rt:17:11
 function-type-requires : tie.Need-function-type-requires

@@ -5,34 +5,6 @@ use Rattle.performing.proofs.Dispatch.{as-operator, variable-is}
 use borrow.Author.Needs.{needs}
 use Rattle.performing.proofs.perform.Statement.{statement}
 use Rattle.performing.proofs.perform.Tie as tie
-use Rattle.performing.proofs.perform.Reads as reads
-use Rattle.performing.proofs.perform.Lts as lts
-use Rattle.copies.proofs.optional.Reads as optional-reads
-use Rattle.copies.proofs.push_leaf.Reads as push-leaf-reads
-use Rattle.copies.proofs.standard.Reads as standard-reads
-use Rattle.entities.proofs.deinitializer.Reads as deinitializer-reads
-use Rattle.entities.proofs.initializer.Reads as initializer-reads
-use Rattle.entities.proofs.plain_function.Reads as plain-function-reads
-use Rattle.requirements.proofs.requirement.Reads as requirement-reads
-use Rattle.entities.proofs.value_witness.Reads as value-witness-reads
-use Rattle.entities.proofs.variable.Reads as variable-reads
-use Rattle.wrappers.proofs.in_out.Reads as in-out-reads
-use Rattle.wrappers.proofs.metatype.Reads as metatype-reads
-use Rattle.wrappers.proofs.static_member.Reads as static-member-reads
-use Rattle.wrappers.proofs.variable_initializer.Reads as variable-initializer-reads
-use Rattle.performing.proofs.function_type.Reads as function-type-reads
-use Rattle.types.proofs.archetype.Reads as archetype-reads
-use Rattle.types.proofs.bound_generic.Reads as bound-generic-reads
-use Rattle.types.proofs.generic_signature.Reads as generic-signature-reads
-use Rattle.types.proofs.nominal.Reads as nominal-reads
-use Rattle.types.proofs.protocol_list.Reads as protocol-list-reads
-use Rattle.types.proofs.tuple.Reads as tuple-reads
-use Rattle.witnesses.proofs.associated_conformance.Reads as associated-conformance-reads
-use Rattle.witnesses.proofs.associated_type.Reads as associated-type-reads
-use Rattle.witnesses.proofs.lazy_witness.Reads as lazy-witness-reads
-use Rattle.witnesses.proofs.protocol_witness.Reads as protocol-witness-reads
-use Rattle.witnesses.proofs.record_of.Reads as record-of-reads
-use Rattle.witnesses.proofs.suspend_resume.Reads as suspend-resume-reads
 
 -- src/lib.rt:29:27
 enum-known-op : tie.Need-enum-known-op

@@ -24,7 +24,7 @@ enum-known-start c = search needs
 
 -- src/lib.rt:18:39
 read-body-requires : tie.Need-read-body-requires
-read-body-requires c κs = ((was-body (c .before .before .before .before .before .before .before .before .before .args .what) 64 (c .before .before .before .before .before .before .before .before .before .args .ceiling) (length (c .before .before .before .before .before .before .before .before .before .args .workspace .now)) (c .before .before .before .before .before .before .before .before .before .args .text .now) (c .before .before .before .before .before .admit .result) (c .before .before .before .start .given .1) (c .before .before .before .before .before .admit .ensures)) .0 .order, (was-body (c .before .before .before .before .before .before .before .before .before .args .what) 64 (c .before .before .before .before .before .before .before .before .before .args .ceiling) (length (c .before .before .before .before .before .before .before .before .before .args .workspace .now)) (c .before .before .before .before .before .before .before .before .before .args .text .now) (c .before .before .before .before .before .admit .result) (c .before .before .before .start .given .1) (c .before .before .before .before .before .admit .ensures)) .0 .inside, (was-body (c .before .before .before .before .before .before .before .before .before .args .what) 64 (c .before .before .before .before .before .before .before .before .before .args .ceiling) (length (c .before .before .before .before .before .before .before .before .before .args .workspace .now)) (c .before .before .before .before .before .before .before .before .before .args .text .now) (c .before .before .before .before .before .admit .result) (c .before .before .before .start .given .1) (c .before .before .before .before .before .admit .ensures)) .1 .short, (was-body (c .before .before .before .before .before .before .before .before .before .args .what) 64 (c .before .before .before .before .before .before .before .before .before .args .ceiling) (length (c .before .before .before .before .before .before .before .before .before .args .workspace .now)) (c .before .before .before .before .before .before .before .before .before .args .text .now) (c .before .before .before .before .before .admit .result) (c .before .before .before .start .given .1) (c .before .before .before .before .before .admit .ensures)) .1 .small, (was-body (c .before .before .before .before .before .before .before .before .before .args .what) 64 (c .before .before .before .before .before .before .before .before .before .args .ceiling) (length (c .before .before .before .before .before .before .before .before .before .args .workspace .now)) (c .before .before .before .before .before .before .before .before .before .args .text .now) (c .before .before .before .before .before .admit .result) (c .before .before .before .start .given .1) (c .before .before .before .before .before .admit .ensures)) .1 .long)
+read-body-requires c κs = ((was-body (c .before .before .before .before .before .before .before .before .before .args .what) 64 (c .before .before .before .before .before .before .before .before .before .args .ceiling) (length (c .before .before .before .before .before .before .before .before .before .args .workspace .now)) (c .before .before .before .before .before .before .before .before .before .args .text .now) (c .before .before .before .before .before .admit .result) (c .before .before .before .start .given .1) (c .before .before .before .before .before .admit .ensures)) .0 .order, (was-body (c .before .before .before .before .before .before .before .before .before .args .what) 64 (c .before .before .before .before .before .before .before .before .before .args .ceiling) (length (c .before .before .before .before .before .before .before .before .before .args .workspace .now)) (c .before .before .before .before .before .before .before .before .before .args .text .now) (c .before .before .before .before .before .admit .result) (c .before .before .before .start .given .1) (c .before .before .before .before .before .admit .ensures)) .0 .inside, (was-body (c .before .before .before .before .before .before .before .before .before .args .what) 64 (c .before .before .before .before .before .before .before .before .before .args .ceiling) (length (c .before .before .before .before .before .before .before .before .before .args .workspace .now)) (c .before .before .before .before .before .before .before .before .before .args .text .now) (c .before .before .before .before .before .admit .result) (c .before .before .before .start .given .1) (c .before .before .before .before .before .admit .ensures)) .1 .short, (was-body (c .before .before .before .before .before .before .before .before .before .args .what) 64 (c .before .before .before .before .before .before .before .before .before .args .ceiling) (length (c .before .before .before .before .before .before .before .before .before .args .workspace .now)) (c .before .before .before .before .before .before .before .before .before .args .text .now) (c .before .before .before .before .before .admit .result) (c .before .before .before .start .given .1) (c .before .before .before .before .before .admit .ensures)) .1 .small, (was-body (c .before .before .before .before .before .before .before .before .before .args .what) 64 (c .before .before .before .before .before .before .before .before .before .args .ceiling) (length (c .before .before .before .before .before .before .before .before .before .args .workspace .now)) (c .before .before .before .before .before .before .before .before .before .args .text .now) (c .before .before .before .before .before .admit .result) (c .before .before .before .start .given .1) (c .before .before .before .before .before .admit .ensures)) .1 .long, (was-body (c .before .before .before .before .before .before .before .before .before .args .what) 64 (c .before .before .before .before .before .before .before .before .before .args .ceiling) (length (c .before .before .before .before .before .before .before .before .before .args .workspace .now)) (c .before .before .before .before .before .before .before .before .before .args .text .now) (c .before .before .before .before .before .admit .result) (c .before .before .before .start .given .1) (c .before .before .before .before .before .admit .ensures)) .0 .encoded)
 
 -- src/lib.rt:27:27
 enum-known-r : tie.Need-enum-known-r

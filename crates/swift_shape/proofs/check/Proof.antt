@@ -24,7 +24,7 @@ enum-known-start c = search needs
 
 -- src/lib.rt:67:39
 check-body-requires : tie.Need-check-body-requires
-check-body-requires c κs = ((was-body (c .before .before .before .before .before .before .before .args .what) 8 (c .before .before .before .before .before .before .before .args .ceiling) (length (c .before .before .before .before .before .before .before .args .workspace .now)) (c .before .before .before .before .before .before .before .args .text .now) (c .before .before .before .before .admit .result) (c .before .before .start .given .1) (c .before .before .before .before .admit .ensures)) .0 .order, (was-body (c .before .before .before .before .before .before .before .args .what) 8 (c .before .before .before .before .before .before .before .args .ceiling) (length (c .before .before .before .before .before .before .before .args .workspace .now)) (c .before .before .before .before .before .before .before .args .text .now) (c .before .before .before .before .admit .result) (c .before .before .start .given .1) (c .before .before .before .before .admit .ensures)) .0 .inside, (was-body (c .before .before .before .before .before .before .before .args .what) 8 (c .before .before .before .before .before .before .before .args .ceiling) (length (c .before .before .before .before .before .before .before .args .workspace .now)) (c .before .before .before .before .before .before .before .args .text .now) (c .before .before .before .before .admit .result) (c .before .before .start .given .1) (c .before .before .before .before .admit .ensures)) .1 .short, (was-body (c .before .before .before .before .before .before .before .args .what) 8 (c .before .before .before .before .before .before .before .args .ceiling) (length (c .before .before .before .before .before .before .before .args .workspace .now)) (c .before .before .before .before .before .before .before .args .text .now) (c .before .before .before .before .admit .result) (c .before .before .start .given .1) (c .before .before .before .before .admit .ensures)) .1 .small, (was-body (c .before .before .before .before .before .before .before .args .what) 8 (c .before .before .before .before .before .before .before .args .ceiling) (length (c .before .before .before .before .before .before .before .args .workspace .now)) (c .before .before .before .before .before .before .before .args .text .now) (c .before .before .before .before .admit .result) (c .before .before .start .given .1) (c .before .before .before .before .admit .ensures)) .1 .long)
+check-body-requires c κs = ((was-body (c .before .before .before .before .before .before .before .args .what) 8 (c .before .before .before .before .before .before .before .args .ceiling) (length (c .before .before .before .before .before .before .before .args .workspace .now)) (c .before .before .before .before .before .before .before .args .text .now) (c .before .before .before .before .admit .result) (c .before .before .start .given .1) (c .before .before .before .before .admit .ensures)) .0 .order, (was-body (c .before .before .before .before .before .before .before .args .what) 8 (c .before .before .before .before .before .before .before .args .ceiling) (length (c .before .before .before .before .before .before .before .args .workspace .now)) (c .before .before .before .before .before .before .before .args .text .now) (c .before .before .before .before .admit .result) (c .before .before .start .given .1) (c .before .before .before .before .admit .ensures)) .0 .inside, (was-body (c .before .before .before .before .before .before .before .args .what) 8 (c .before .before .before .before .before .before .before .args .ceiling) (length (c .before .before .before .before .before .before .before .args .workspace .now)) (c .before .before .before .before .before .before .before .args .text .now) (c .before .before .before .before .admit .result) (c .before .before .start .given .1) (c .before .before .before .before .admit .ensures)) .1 .short, (was-body (c .before .before .before .before .before .before .before .args .what) 8 (c .before .before .before .before .before .before .before .args .ceiling) (length (c .before .before .before .before .before .before .before .args .workspace .now)) (c .before .before .before .before .before .before .before .args .text .now) (c .before .before .before .before .admit .result) (c .before .before .start .given .1) (c .before .before .before .before .admit .ensures)) .1 .small, (was-body (c .before .before .before .before .before .before .before .args .what) 8 (c .before .before .before .before .before .before .before .args .ceiling) (length (c .before .before .before .before .before .before .before .args .workspace .now)) (c .before .before .before .before .before .before .before .args .text .now) (c .before .before .before .before .admit .result) (c .before .before .start .given .1) (c .before .before .before .before .admit .ensures)) .1 .long, (was-body (c .before .before .before .before .before .before .before .args .what) 8 (c .before .before .before .before .before .before .before .args .ceiling) (length (c .before .before .before .before .before .before .before .args .workspace .now)) (c .before .before .before .before .before .before .before .args .text .now) (c .before .before .before .before .admit .result) (c .before .before .start .given .1) (c .before .before .before .before .admit .ensures)) .0 .encoded)
 
 -- src/lib.rt:75:27
 enum-known-r : tie.Need-enum-known-r

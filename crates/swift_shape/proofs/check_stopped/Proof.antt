@@ -23,7 +23,7 @@ enum-known-start c = search needs
 
 -- src/lib.rt:90:39
 check-stopped-body-requires : tie.Need-check-stopped-body-requires
-check-stopped-body-requires c κs = ((was-body (c .before .before .before .before .before .before .before .before .before .args .what) 8 (c .before .before .before .before .before .before .before .before .before .args .ceiling) (length (c .before .before .before .before .before .before .before .before .before .args .workspace .now)) (c .before .before .before .before .before .before .before .before .before .args .text .now) (c .before .before .before .before .before .admit .result) (c .before .before .before .start .given .1) (c .before .before .before .before .before .admit .ensures)) .0 .order, (was-body (c .before .before .before .before .before .before .before .before .before .args .what) 8 (c .before .before .before .before .before .before .before .before .before .args .ceiling) (length (c .before .before .before .before .before .before .before .before .before .args .workspace .now)) (c .before .before .before .before .before .before .before .before .before .args .text .now) (c .before .before .before .before .before .admit .result) (c .before .before .before .start .given .1) (c .before .before .before .before .before .admit .ensures)) .0 .inside, (was-body (c .before .before .before .before .before .before .before .before .before .args .what) 8 (c .before .before .before .before .before .before .before .before .before .args .ceiling) (length (c .before .before .before .before .before .before .before .before .before .args .workspace .now)) (c .before .before .before .before .before .before .before .before .before .args .text .now) (c .before .before .before .before .before .admit .result) (c .before .before .before .start .given .1) (c .before .before .before .before .before .admit .ensures)) .1 .short, (was-body (c .before .before .before .before .before .before .before .before .before .args .what) 8 (c .before .before .before .before .before .before .before .before .before .args .ceiling) (length (c .before .before .before .before .before .before .before .before .before .args .workspace .now)) (c .before .before .before .before .before .before .before .before .before .args .text .now) (c .before .before .before .before .before .admit .result) (c .before .before .before .start .given .1) (c .before .before .before .before .before .admit .ensures)) .1 .small, (was-body (c .before .before .before .before .before .before .before .before .before .args .what) 8 (c .before .before .before .before .before .before .before .before .before .args .ceiling) (length (c .before .before .before .before .before .before .before .before .before .args .workspace .now)) (c .before .before .before .before .before .before .before .before .before .args .text .now) (c .before .before .before .before .before .admit .result) (c .before .before .before .start .given .1) (c .before .before .before .before .before .admit .ensures)) .1 .long)
+check-stopped-body-requires c κs = ((was-body (c .before .before .before .before .before .before .before .before .before .args .what) 8 (c .before .before .before .before .before .before .before .before .before .args .ceiling) (length (c .before .before .before .before .before .before .before .before .before .args .workspace .now)) (c .before .before .before .before .before .before .before .before .before .args .text .now) (c .before .before .before .before .before .admit .result) (c .before .before .before .start .given .1) (c .before .before .before .before .before .admit .ensures)) .0 .order, (was-body (c .before .before .before .before .before .before .before .before .before .args .what) 8 (c .before .before .before .before .before .before .before .before .before .args .ceiling) (length (c .before .before .before .before .before .before .before .before .before .args .workspace .now)) (c .before .before .before .before .before .before .before .before .before .args .text .now) (c .before .before .before .before .before .admit .result) (c .before .before .before .start .given .1) (c .before .before .before .before .before .admit .ensures)) .0 .inside, (was-body (c .before .before .before .before .before .before .before .before .before .args .what) 8 (c .before .before .before .before .before .before .before .before .before .args .ceiling) (length (c .before .before .before .before .before .before .before .before .before .args .workspace .now)) (c .before .before .before .before .before .before .before .before .before .args .text .now) (c .before .before .before .before .before .admit .result) (c .before .before .before .start .given .1) (c .before .before .before .before .before .admit .ensures)) .1 .short, (was-body (c .before .before .before .before .before .before .before .before .before .args .what) 8 (c .before .before .before .before .before .before .before .before .before .args .ceiling) (length (c .before .before .before .before .before .before .before .before .before .args .workspace .now)) (c .before .before .before .before .before .before .before .before .before .args .text .now) (c .before .before .before .before .before .admit .result) (c .before .before .before .start .given .1) (c .before .before .before .before .before .admit .ensures)) .1 .small, (was-body (c .before .before .before .before .before .before .before .before .before .args .what) 8 (c .before .before .before .before .before .before .before .before .before .args .ceiling) (length (c .before .before .before .before .before .before .before .before .before .args .workspace .now)) (c .before .before .before .before .before .before .before .before .before .args .text .now) (c .before .before .before .before .before .admit .result) (c .before .before .before .start .given .1) (c .before .before .before .before .before .admit .ensures)) .1 .long, (was-body (c .before .before .before .before .before .before .before .before .before .args .what) 8 (c .before .before .before .before .before .before .before .before .before .args .ceiling) (length (c .before .before .before .before .before .before .before .before .before .args .workspace .now)) (c .before .before .before .before .before .before .before .before .before .args .text .now) (c .before .before .before .before .before .admit .result) (c .before .before .before .start .given .1) (c .before .before .before .before .before .admit .ensures)) .0 .encoded)
 
 -- src/lib.rt:99:27
 enum-known-r : tie.Need-enum-known-r

@@ -1,0 +1,85 @@
+// The literals whose words are not noted yet: most texts have no identifier that looks for a word, and none is noted there.
+ghost use mathlib.Core.Path.{_≡_};
+ghost use Prim.Native.Nat.{_≤_, _<_};
+ghost use lib.ListN.{length};
+ghost use Rattle.definition.specs.Text.{Text};
+ghost use Rattle.definition.specs.Words as W;
+ghost use Rattle.definition.specs.Check as C;
+ghost use Rattle.words.specs.Table.{table, Fitting, Holds};
+ghost use Rattle.waiting.specs.Waits.{noted-behind, Waits, More};
+use words::Words;
+use words::count_words;
+use words::note_words;
+
+// The literals in order: where each starts in the text, and how long it is.
+pub struct Waiting {
+    pub starts: [u16; 16],
+    pub lengths: [u16; 16],
+    pub count: usize,
+}
+
+impl Waiting {
+    // No literal waits.
+    pub fn new() -> Waiting
+        ensures { λ r. ⌜ (r .count ≡ 0) × ((text : Text) → Waits text r) ⌝ }
+    {
+        Waiting {
+            starts: [0; 16],
+            lengths: [0; 16],
+            count: 0,
+        }
+    }
+}
+
+fn wide(x: u16) -> usize
+    ensures { λ r. ⌜ (r ≡ x) × (r < 65536) ⌝ }
+{
+    x as usize
+}
+
+// The literal text[from..to] waits behind the others.
+pub fn wait(q: Waiting, from: usize, to: usize) -> Waiting
+    requires { ⌜ (q .count < 16) × (from ≤ to) × (to ≤ 65535) ⌝ }
+    ensures { λ r. ⌜ ((text : Text) → to ≤ length text → Waits text q → More text from to q r) ⌝ }
+{
+    let mut more = q;
+    let count = more.count;
+    more.starts[count] = from as u16;
+    more.lengths[count] = (to - from) as u16;
+    more.count = count + 1;
+    more
+}
+
+// The table with the words of all that waits.
+pub fn note_waiting(text: &[u8], q: Waiting, w: Words) -> Words
+    requires { ⌜ (length (now text) ≤ 65535) × Waits (now text) q × Fitting (now text) w ⌝ }
+    ensures { λ r. ⌜ Holds (now (text .entry)) (noted-behind W.note-words (now (text .entry)) q (table (now (text .entry)) w)) w r ⌝ }
+{
+    let count = q.count;
+    let mut known = w;
+    let mut i = 0;
+    while i < count {
+        let from = wide(q.starts[i]);
+        let to = from + wide(q.lengths[i]);
+        known = note_words(text, from, to, known);
+        i += 1;
+    }
+    known
+}
+
+// How many words are known with those of all that waits.
+pub fn count_waiting(text: &[u8], q: Waiting, before: usize) -> usize
+    requires { ⌜ (length (now text) ≤ 65535) × Waits (now text) q ⌝ }
+    ensures { λ r. ⌜ r ≡ noted-behind (C.count-words-from 0 0) (now (text .entry)) q before ⌝ }
+{
+    let count = q.count;
+    let mut known = before;
+    let mut i = 0;
+    while i < count {
+        let from = wide(q.starts[i]);
+        let to = from + wide(q.lengths[i]);
+        known = count_words(text, from, to, known);
+        i += 1;
+    }
+    known
+}
