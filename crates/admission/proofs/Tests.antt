@@ -12,7 +12,7 @@ use Rattle.definition.specs.Base.{given}
 use Rattle.definition.specs.Text as Text
 use Rattle.definition.specs.Text.{Text, Symbol, split, ill-formed}
 use Rattle.definition.specs.Calls as Calls
-use Rattle.definition.specs.Calls.{refusal, good-ceiling, checked, symbol, whole-text}
+use Rattle.definition.specs.Calls.{refusal, good-ceiling, admit, symbol, whole-text}
 use Rattle.definition.specs.Enums.{number}
 use Rattle.definition.specs.declared.Refusal.{Refusal}
 use Rattle.definition.specs.declared.Refusal.the-variants as Refusal
@@ -67,11 +67,11 @@ outcome ceiling long short ill rest = elim ceiling [
 
 module _ (what : Final) (need N w : ℕ) (t : Text) where
   abbrev Fails : Refusal → ℕ → Type 0
-  Fails r place = Refused (λ read. checked need N w t (framed what t read)) r place
+  Fails r place = Refused (λ read. admit need N w t (framed what t read)) r place
 
   -- the tests' outcomes are these
-  tested : {g l s : Bool} {o : Option ℕ} → good-ceiling N ≡ g → leb (need * N) w ≡ l → leb (length t) 65535 ≡ s → ill-formed t ≡ o → (a : Calls.Answer) → checked need N w t a ≡ outcome g l s o a
-  unfolding checked outcome
+  tested : {g l s : Bool} {o : Option ℕ} → good-ceiling N ≡ g → leb (need * N) w ≡ l → leb (length t) 65535 ≡ s → ill-formed t ≡ o → (a : Calls.Answer) → admit need N w t a ≡ outcome g l s o a
+  unfolding admit outcome
   tested {g} {l} {s} e₁ e₂ e₃ e₄ a =
       ap (λ (x : Bool). outcome x (leb (need * N) w) (leb (length t) 65535) (ill-formed t) a) e₁ ∙ ap (λ (x : Bool). outcome g x (leb (length t) 65535) (ill-formed t) a) e₂
       ∙ ap (λ (x : Bool). outcome g l x (ill-formed t) a) e₃ ∙ ap (λ (x : Option ℕ). outcome g l s x a) e₄
@@ -113,7 +113,7 @@ module _ (what : Final) (need N w : ℕ) (t : Text) where
         unfolding number outcome
         text-ill-formed p h = record { is = λ read. tested ceiling-is long-is short-is h (framed what t read) }
 
-        passes : ill-formed t ≡ none → (a : Calls.Answer) → checked need N w t a ≡ a
+        passes : ill-formed t ≡ none → (a : Calls.Answer) → admit need N w t a ≡ a
         unfolding outcome
         passes h a = tested ceiling-is long-is short-is h a
 

@@ -5,7 +5,7 @@ use Prim.Native.Nat.{ℕ, _-_, _*_, _≤_}
 use lib.ListN.{length, take, drop}
 use Rattle.definition.specs.Text.{Text, Symbol, well-formed}
 use Rattle.definition.specs.Calls as Calls
-use Rattle.definition.specs.Calls.{refusal, checked, symbol, whole-text}
+use Rattle.definition.specs.Calls.{refusal, admit, symbol, whole-text}
 use Rattle.definition.specs.Enums.{number}
 use Rattle.definition.specs.declared.Refusal.{Refusal}
 use Rattle.symbols.specs.Symbol as Symbols
@@ -41,5 +41,5 @@ pub record Bounds (need N workspace : ℕ) (t : Text) : Type 0 where
   pub short : length t ≤ 65535
 
 abbrev pub Admits : Final → (need N workspace : ℕ) → Text → Admitted → Type 0
-Admits what need N workspace t (Admitted.Body start end) = Body (λ read. checked need N workspace t (framed what t read)) t start end × Bounds need N workspace t
-Admits what need N workspace t (Admitted.Refused r place) = Refused (λ read. checked need N workspace t (framed what t read)) r place
+Admits what need N workspace t (Admitted.Body start end) = Body (λ read. admit need N workspace t (framed what t read)) t start end × Bounds need N workspace t
+Admits what need N workspace t (Admitted.Refused r place) = Refused (λ read. admit need N workspace t (framed what t read)) r place

@@ -11,6 +11,7 @@ ghost use Rattle.nodes.specs.Gives.{Beyond};
 ghost use Rattle.runs.specs.Ends.{kinds-of};
 ghost use Rattle.symbols.specs.Symbol as Symbols;
 ghost use Rattle.answers.specs.Answers.{Held, Finishes};
+use budget::Budget;
 use definition::Answer;
 use definition::Refusal;
 use endings::measured;
@@ -63,7 +64,7 @@ pub fn read_body(
     ensures { λ r. ⌜ Answers (Calls.within (length (now (out .entry))) (Reading.whole ceiling (kinds-of what) (Symbols.symbol (now (text .entry)) start end))) (now (out .entry)) (now (out .exit)) r × Beyond (now (workspace .entry)) (now (workspace .exit)) ceiling ⌝ }
 {
     let body = &text[start..end];
-    let reached = reading::run(body, 4097, workspace, ceiling);
+    let reached = reading::run(body, Budget::ALL_TURNS, workspace, ceiling);
     let ended = reached.end;
     let words = reached.words;
     match ended {

@@ -25,6 +25,9 @@ impl Budget {
 
     pub const MOST_WRAPS: usize = 256;
 
+    // How many turns a whole run may make: one more than there are steps, which is refused.
+    pub const ALL_TURNS: usize = Budget::MOST_STEPS + 1;
+
     // Zero counts.
     pub fn new() -> Self
         ensures { λ r. ⌜ budget-of r ≡ Definition.fresh ⌝ }

@@ -8,7 +8,8 @@ use native.Mathlib.Omega.{arith}
 use lib.Dec.{T}
 use Rattle.definition.specs.Base.{Out, ok, if_then_else_}
 use Rattle.definition.specs.Kind as K
-use Rattle.definition.specs.Node.{Node, Nodes, Identifier, nil, cons, kind, size, sizes, many, name-of}
+use Rattle.definition.proofs.Matches.{the-name}
+use Rattle.definition.specs.Node.{Node, Nodes, Identifier, nil, cons, kind, size, sizes, many, view, name-of}
 use Rattle.definition.specs.Machine as M
 use Rattle.definition.specs.Machine.{restack}
 use Rattle.definition.specs.Perform as R
@@ -98,18 +99,18 @@ tried-kind want m m₁ x = of (m .stack)
     of (n ∷ s) e = go n s (want (kind n)) refl e
 
 pub label-there : {w : List ℕ} {N : ℕ} {st u : State} {p : ℕ} (k : ℕ) → k ≡ at w p 3 → GivesIf (R.try K.is-identifier) w N st p u → Labels w N st (record { label = k; next = u })
-unfolding R.label-of
+unfolding R.label-of name-of view
 label-there {w} {N} {st} {u} {p} k e g = record {
   deep = omega (arith, g .deep);
   top = g .top;
   gives = λ nm sp m h.
       let t : GivenIf (R.try K.is-identifier) nm w N p u sp m = g .gives nm sp m h in
-      let i : t .tree ≡ Identifier (name-of (t .tree)) = identifier-of (t .tree) (tried-kind K.is-identifier m (t .machine) (t .tree) (t .is)) in
+      let i : t .tree ≡ Identifier (the-name (t .tree)) = identifier-of (t .tree) (tried-kind K.is-identifier m (t .machine) (t .tree) (t .is)) in
       record {
         label = some (t .tree);
         machine = t .machine;
         is = t .is;
-        labelled = subst (λ (j : ℕ). Named nm j (name-of (t .tree))) (sym e) ((subst (λ (x : Node). Lies (Named nm) x w p) i (t .lies)) .body);
+        labelled = subst (λ (x : Node). LabelIs (Named nm) (name-of x) k) (sym i) (subst (λ (j : ℕ). Named nm j (the-name (t .tree))) (sym e) ((subst (λ (x : Node). Lies (Named nm) x w p) i (t .lies)) .body));
         holds = less-spare (taken 3 (size (t .tree)) sp) sp (omega arith) (omega arith) (omega arith) (omega arith) (t .holds);
       };
 }

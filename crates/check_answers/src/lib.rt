@@ -11,6 +11,7 @@ ghost use Rattle.endings.specs.Answers.{Answers};
 ghost use Rattle.runs.specs.Ends.{kinds-of};
 ghost use Rattle.stores.specs.Stores.{Outside};
 ghost use Rattle.symbols.specs.Symbol as Symbols;
+use budget::Budget;
 use checking::Ended;
 use definition::Answer;
 use definition::Refusal;
@@ -30,7 +31,7 @@ pub fn check_body(
     requires { ⌜ (start ≤ end) × (end ≤ length (now text)) × (length (now text) ≤ 65535) × (ceiling ≤ 65536) × (8 * ceiling ≤ length (now workspace)) × (Text.well-formed (take (end - start) (drop start (now text))) ≡ true) ⌝ }
     ensures { λ r. ⌜ (Enums.values r ≡ Check.whole ceiling (kinds-of what) (Symbols.symbol (now (text .entry)) start end) .values) × Outside ceiling (now (workspace .entry)) (now (workspace .exit)) ⌝ }
 {
-    match checking::run(&text[start..end], 4097, workspace, ceiling) {
+    match checking::run(&text[start..end], Budget::ALL_TURNS, workspace, ceiling) {
         Ended::Ran(st) => {
             if checking::single(workspace, st, what) {
                 let budget = st.budget;

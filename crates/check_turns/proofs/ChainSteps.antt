@@ -34,7 +34,7 @@ use Rattle.check_turns.specs.declared.Letter.the-variants as Letter
 
 module _ (N : ℕ) (m : Shapes) where
   -- an item, then the rest
-  performs-more : (t i : ℕ) (ch : Chain) → performs N (outcome (more (Op.copies t i) ch)) m ≡ and-then (recall-copies N t i m) (λ x. performs N (outcome ch))
+  performs-more : (t i : ℕ) (ch : Chain) → performs N (outcome (more (Op.substitution t i) ch)) m ≡ and-then (recall-copies N t i m) (λ x. performs N (outcome ch))
   unfolding then-run C.row C.run-row C.recalled
   performs-more t i ch = regroup (M.recall i m) (λ e. C.copied N t e) (C.recalled N (ch .items) (ch .late)) (ret (ch .rest))
 

@@ -19,10 +19,10 @@ use Rattle.definition.specs.Budget as B
 use Rattle.definition.specs.Machine.{Machine, fresh, spend, know, remember, push}
 use Rattle.definition.specs.Perform.{Demangler, Run, perform}
 use Rattle.definition.specs.Shape.{Shapes, Check, kind-of, row, run-row}
-use Rattle.definition.specs.Calls.{Answer, refusal, accepted, within, good-ceiling, checked, symbol, whole-text, End, ran, stopped, then-run, turn, turns, ended, all-turns, single, finished, entry-numbers}
+use Rattle.definition.specs.Calls.{Answer, refusal, accepted, within, good-ceiling, admit, reading-needs, check-needs, symbol, whole-text, End, ran, stopped, then-run, turn, turns, ended, all-turns, single, finished, entry-numbers}
 use Rattle.definition.specs.Reading as R
 use Rattle.definition.specs.Check as C
-use Rattle.definition.specs.Alike.{enough, with-text, WholeAlike, JudgedAlike}
+use Rattle.definition.specs.Alike.{enough, WholeAlike, Demand3}
 use Rattle.definition.proofs.SameText.{passed, failed}
 use Rattle.definition.proofs.Simulation.{Filled, Inv, shapes, Sound, Sim, Any, itself, bind, ret-sim, refuse-sim, spend-sim, know-sim, remember-sim, push-sim}
 use Rattle.definition.proofs.OperatorsAlike.{perform-sim}
@@ -164,11 +164,11 @@ whole-judged N takes s = go (read-turns N all-turns (s .body)) (check-turns N al
 
 -- THE CALLS
 -- the checks before a run pass or refuse alike where each workspace is enough
-module _ (N w w′ : ℕ) (t : Text) (h : T (enough 64 N w)) (h′ : T (enough 8 N w′)) where
+module _ (N w w′ : ℕ) (t : Text) (h : T (enough reading-needs N w)) (h′ : T (enough check-needs N w′)) where
   -- a relation of answers that holds of equal refusals and of what is read
-  checked-alike : (P : Answer → Answer → Type 0) → ((n p : ℕ) → P (refusal n p) (refusal n p)) → (r c : Answer) → P r c → P (checked 64 N w t r) (checked 8 N w′ t c)
-  unfolding checked
-  checked-alike P q r c z = ceiling (good-ceiling N) (leb (64 * N) w) (leb (8 * N) w′) h h′
+  admit-alike : (P : Answer → Answer → Type 0) → ((n p : ℕ) → P (refusal n p) (refusal n p)) → (r c : Answer) → P r c → P (admit reading-needs N w t r) (admit check-needs N w′ t c)
+  unfolding admit
+  admit-alike P q r c z = ceiling (good-ceiling N) (leb (reading-needs * N) w) (leb (check-needs * N) w′) h h′
     where
       read : (b : Bool) (o : Option ℕ) →
           P (elim b [ false ↦ refusal 3 0 | true ↦ elim o [ some p ↦ refusal 4 p | none ↦ r ] ]) (elim b [ false ↦ refusal 3 0 | true ↦ elim o [ some p ↦ refusal 4 p | none ↦ c ] ])
@@ -194,12 +194,12 @@ module _ (N w w′ : ℕ) (t : Text) (h : T (enough 64 N w)) (h′ : T (enough 8
       go none = q 5 0
       go (some s) = z s
 
--- Judging alike, one theorem: for every text, ceiling, k, output length, and workspaces that are enough
-pub judging-alike : (t : Text) (N k w w′ out : ℕ) → T (enough 64 N w) → T (enough 8 N w′) → JudgedAlike t N k w w′ out
+-- Judging alike, one theorem
+pub judging-alike : Demand3
 unfolding R.read R.read-type R.read-stopped R.read-type-stopped R.demangle R.demangle-type R.demangle-stopped R.demangle-type-stopped C.shape C.shape-type C.shape-stopped C.shape-type-stopped
 judging-alike t N k w w′ out h h′ = record {
-  symbol = checked-alike N w w′ t h h′ Judged refusal-judged _ _ (symbol-alike N w w′ t h h′ Judged refusal-judged (R.whole N _) (C.whole N _) (whole-judged N _)) out;
-  type = checked-alike N w w′ t h h′ Judged refusal-judged _ _ (whole-judged N K.is-type (whole-text t)) out;
-  symbol-stopped = ap (within out) (checked-alike N w w′ t h h′ _≡_ (λ n p. refl) _ _ (symbol-alike N w w′ t h h′ _≡_ (λ n p. refl) (R.stopped-after N k) (C.stopped-after N k) (stopped-alike N k)));
-  type-stopped = ap (within out) (checked-alike N w w′ t h h′ _≡_ (λ n p. refl) _ _ (stopped-alike N k (whole-text t)));
+  symbol = admit-alike N w w′ t h h′ Judged refusal-judged _ _ (symbol-alike N w w′ t h h′ Judged refusal-judged (R.whole N _) (C.whole N _) (whole-judged N _)) out;
+  type = admit-alike N w w′ t h h′ Judged refusal-judged _ _ (whole-judged N K.is-type (whole-text t)) out;
+  symbol-stopped = ap (within out) (admit-alike N w w′ t h h′ _≡_ (λ n p. refl) _ _ (symbol-alike N w w′ t h h′ _≡_ (λ n p. refl) (R.stopped-after N k) (C.stopped-after N k) (stopped-alike N k)));
+  type-stopped = ap (within out) (admit-alike N w w′ t h h′ _≡_ (λ n p. refl) _ _ (stopped-alike N k (whole-text t)));
 }

@@ -4,11 +4,15 @@ pub mod Arms
 pub mod PrintEquations
 pub mod OnlySwift
 pub mod ParamNames
+pub mod OperatorsKeep
 pub mod WordsAdded
 pub mod WordsApart
+pub mod Matches
 pub mod Simulation
 pub mod OperatorsAlike
 pub mod WordsAlike
 pub mod JudgingAlike
+pub mod WholeRuns
+pub mod Bounds
 pub mod Room
 pub mod RunNumbers

@@ -236,7 +236,7 @@ module _ (N : ℕ) where
       bind _ _ protocol-sim λ r _. bind _ _ (took-sim K.first-element-marker) λ _ _. bind _ _ (try-sim K.is-protocol) λ q _. bind _ _ pop-name-sim λ name _. bind _ _ (pop-if-sim K.is-type) λ p _.
       leave-sim _ _ (AssociatedConformance p (R.one-or-none q) name r) (tt, tt) refl refl refl
 
-  substitutions-sim : (cs : List Op.Copies) (l : Late Done) → Alike (R.substitutions N cs l) (C.recalled N cs l)
+  substitutions-sim : (cs : List Op.Substitution) (l : Late Done) → Alike (R.substitutions N cs l) (C.recalled N cs l)
   unfolding R.substitutions C.recalled
   substitutions-sim [] l = judge-sim l
   substitutions-sim (c ∷ cs) l = bind _ _ (recall-sim (c .index)) λ n g. bind _ _ (copied-sim (c .times) n g) λ _ _. substitutions-sim cs l

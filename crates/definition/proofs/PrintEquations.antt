@@ -10,26 +10,26 @@ use lib.Dec.{T, eqb, leb, not-T, T-not}
 use Rattle.definition.specs.Base.{Name, bytes, same, if_then_else_}
 use Rattle.definition.specs.Kind as K
 use Rattle.definition.specs.Node.{NominalKind, Class, Struct, Enum, Protocol, TypeAlias, Labels, Node, Nodes, nil, cons, Identifier, Module, Nominal, GenericParam, DependentMember, Tuple, FunctionType, GenericType, GenericSignature, ConformanceRequirement, SameTypeRequirement, ProtocolList, Metatype, InOut, BoundGeneric, Function, Variable, Accessor, Initializer, Deinitializer, VariableInitializer, Static, Record, Conformance, ProtocolWitness, ValueWitness, EmptyList, FirstElementMarker, VariadicMarker, Throws, Async, LazyWitness, AssociatedConformance, nominal-kind, kind, many}
-use Rattle.definition.specs.Print.{join, dotted, generic-param-name, param-names, signature-text, params-from, in-parens, texts, effects, initializer-name, deinitializer-name, composition, printed, print-tuple, print-function-type, print-generic-type, print-nominal, print-variable, angled, bound, printing, elements, print, print-params, qualified}
+use Rattle.definition.specs.Print.{join, dotted, generic-param-name, param-names, signature-text, params-from, in-parens, texts, effects, initializer-name, deinitializer-name, composition, printed, print-tuple, print-function-type, print-generic-type, print-nominal, print-variable, angled, bound, printing, printed-elements, print, print-params, qualified}
 use Rattle.definition.proofs.SameText.{passed, failed, both, neither, same-both, has, has-left, has-right}
 
 -- LISTS OF NODES
--- `elements` goes through a list of nodes and prints each, with its own label beside it
-pub elements-nil : elements nil ≡ []
-unfolding elements
+-- `printed-elements` goes through a list of nodes and prints each, with its own label beside it
+pub elements-nil : printed-elements nil ≡ []
+unfolding printed-elements
 elements-nil = refl
 
-pub elements-cons : (l : Option Name) (n : Node) (ns : Nodes) → elements (cons l n ns) ≡ (l, print n) ∷ elements ns
-unfolding print elements
+pub elements-cons : (l : Option Name) (n : Node) (ns : Nodes) → printed-elements (cons l n ns) ≡ (l, print n) ∷ printed-elements ns
+unfolding print printed-elements
 elements-cons l n ns = refl
 
--- `.iter().map(Node::print)` is `texts (elements ns)`
-pub texts-nil : texts (elements nil) ≡ []
-unfolding elements texts
+-- `.iter().map(Node::print)` is `texts (printed-elements ns)`
+pub texts-nil : texts (printed-elements nil) ≡ []
+unfolding printed-elements texts
 texts-nil = refl
 
-pub texts-cons : (l : Option Name) (n : Node) (ns : Nodes) → texts (elements (cons l n ns)) ≡ print n ∷ texts (elements ns)
-unfolding print elements texts
+pub texts-cons : (l : Option Name) (n : Node) (ns : Nodes) → texts (printed-elements (cons l n ns)) ≡ print n ∷ texts (printed-elements ns)
+unfolding print printed-elements texts
 texts-cons l n ns = refl
 
 -- WHAT MOST NODES HAVE
@@ -129,7 +129,7 @@ others (AssociatedConformance p q n r) = by-printed _ _ refl
 
 -- PARAMETERS
 -- line 559
-pub params-of-tuple : (es : Nodes) (ls : Labels) → print-params (Tuple es) ls ≡ in-parens ls (elements es)
+pub params-of-tuple : (es : Nodes) (ls : Labels) → print-params (Tuple es) ls ≡ in-parens ls (printed-elements es)
 unfolding print-params printing print-tuple
 params-of-tuple es ls = refl
 
@@ -169,7 +169,7 @@ print-dependent-member base name = refl
 
 -- TYPES
 -- lines 336 to 345
-pub print-tuple-node : (es : Nodes) → print (Tuple es) ≡ in-parens none (elements es)
+pub print-tuple-node : (es : Nodes) → print (Tuple es) ≡ in-parens none (printed-elements es)
 unfolding print printing print-tuple
 print-tuple-node es = refl
 
@@ -186,12 +186,12 @@ print-generic-type-node signature inner = refl
 
 -- lines 361 to 373
 pub print-signature-alone : (params : ℕ) → print (GenericSignature params nil) ≡ bytes "<" ++ (join ", " (param-names params 0) ++ bytes ">")
-unfolding print printing printed signature-text elements texts
+unfolding print printing printed signature-text printed-elements texts
 print-signature-alone params = refl
 
 pub print-signature-where : (params : ℕ) (l : Option Name) (r : Node) (rs : Nodes) →
-    print (GenericSignature params (cons l r rs)) ≡ bytes "<" ++ (join ", " (param-names params 0) ++ (bytes " where " ++ (join ", " (texts (elements (cons l r rs))) ++ bytes ">")))
-unfolding print printing printed signature-text elements texts
+    print (GenericSignature params (cons l r rs)) ≡ bytes "<" ++ (join ", " (param-names params 0) ++ (bytes " where " ++ (join ", " (texts (printed-elements (cons l r rs))) ++ bytes ">")))
+unfolding print printing printed signature-text printed-elements texts
 print-signature-where params l r rs = refl
 
 -- lines 374 to 376
@@ -206,11 +206,11 @@ print-same-type-requirement param other = refl
 
 -- lines 380 to 390
 pub print-no-protocols : print (ProtocolList nil) ≡ bytes "Any"
-unfolding print printing printed composition elements texts
+unfolding print printing printed composition printed-elements texts
 print-no-protocols = refl
 
-pub print-protocols : (l : Option Name) (p : Node) (ps : Nodes) → print (ProtocolList (cons l p ps)) ≡ join " & " (texts (elements (cons l p ps)))
-unfolding print printing printed composition elements texts
+pub print-protocols : (l : Option Name) (p : Node) (ps : Nodes) → print (ProtocolList (cons l p ps)) ≡ join " & " (texts (printed-elements (cons l p ps)))
+unfolding print printing printed composition printed-elements texts
 print-protocols l p ps = refl
 
 -- line 391
@@ -241,25 +241,25 @@ sugared base args = eqb (many args) 1 && (standard base "Optional" || standard b
 -- line 402
 pub print-optional : (base : Node) (l : Option Name) (arg : Node) → T (standard base "Optional") →
     print (BoundGeneric base (cons l arg nil)) ≡ print arg ++ bytes "?"
-unfolding print printing printed bound elements texts
+unfolding print printing printed bound printed-elements texts
 print-optional base l arg h = rw (passed (standard base "Optional") h, bound)
 
 -- line 403
 pub print-array : (base : Node) (l : Option Name) (arg : Node) → T (standard base "Array") →
     print (BoundGeneric base (cons l arg nil)) ≡ bytes "[" ++ (print arg ++ bytes "]")
-unfolding bytes print printing printed bound elements texts
+unfolding bytes print printing printed bound printed-elements texts
 print-array base l arg h = rw (failed (standard base "Optional") (others base .one-standard "Array" "Optional" tt h), bound, passed (standard base "Array") h)
 
 -- line 404
 pub print-dictionary : (base : Node) (l m : Option Name) (key value : Node) → T (standard base "Dictionary") →
     print (BoundGeneric base (cons l key (cons m value nil))) ≡ bytes "[" ++ (print key ++ (bytes " : " ++ (print value ++ bytes "]")))
-unfolding print printing printed bound elements texts
+unfolding print printing printed bound printed-elements texts
 print-dictionary base l m key value h = rw (passed (standard base "Dictionary") h, bound)
 
 -- line 405
 pub print-bound-generic : (base : Node) (args : Nodes) → T (not (sugared base args)) →
-    print (BoundGeneric base args) ≡ print base ++ (bytes "<" ++ (join ", " (texts (elements args)) ++ bytes ">"))
-unfolding print printing printed bound elements texts angled many
+    print (BoundGeneric base args) ≡ print base ++ (bytes "<" ++ (join ", " (texts (printed-elements args)) ++ bytes ">"))
+unfolding print printing printed bound printed-elements texts angled many
 print-bound-generic base nil h = refl
 print-bound-generic base (cons l a nil) h =
     let h₁ : T (not (standard base "Optional" || standard base "Array")) = neither (standard base "Optional" || standard base "Array") false h .0 in
@@ -421,13 +421,13 @@ print-lazy-witness what ty conformance = refl
 -- lines 1653 to 1661, with no qualifier and with one
 pub print-associated-conformance : (protocol : Node) (name : Name) (required : Node) →
     print (AssociatedConformance protocol nil name required) ≡ bytes "associated conformance descriptor for " ++ (dotted (print protocol) name ++ (bytes ": " ++ print required))
-unfolding print printing printed elements texts qualified
+unfolding print printing printed printed-elements texts qualified
 print-associated-conformance protocol name required = refl
 
 pub print-qualified-conformance : (protocol qualifier : Node) (name : Name) (required : Node) →
     print (AssociatedConformance protocol (cons none qualifier nil) name required) ≡
     bytes "associated conformance descriptor for " ++ (dotted (print protocol) (dotted (print qualifier) name) ++ (bytes ": " ++ print required))
-unfolding print printing printed elements texts qualified
+unfolding print printing printed printed-elements texts qualified
 print-qualified-conformance protocol qualifier name required = refl
 
 -- A TYPE BEHIND A NAME

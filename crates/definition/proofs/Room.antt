@@ -449,7 +449,7 @@ module _ (N : ℕ) where
   recalled-copies-fit : (j times : ℕ) (e : Entry) → Holds (λ s. (1 ≤ e .size) × Fits j s) (C.copied N times e) (λ x s. Fits j s)
   recalled-copies-fit j times e = record { at = λ s f. copied-fits N times e j (f .0) .at s (f .1) }
 
-  recalled-fits : (cs : List Op.Copies) (letter : Late Done) (j : ℕ) → Holds (Fits j) (C.recalled N cs letter) (λ x s. Fits j s)
+  recalled-fits : (cs : List Op.Substitution) (letter : Late Done) (j : ℕ) → Holds (Fits j) (C.recalled N cs letter) (λ x s. Fits j s)
   unfolding C.recalled
   recalled-fits [] (good x) j = returns x (λ s f. f)
   recalled-fits [] (bad r) j = refuses r
@@ -476,7 +476,7 @@ module _ (N : ℕ) where
       go s h none = tt
       go s h (some e) = h
 
-  recalled-charged : (cs : List Op.Copies) (letter : Late Done) → Holds Charged (C.recalled N cs letter) (λ x s. Charged s)
+  recalled-charged : (cs : List Op.Substitution) (letter : Late Done) → Holds Charged (C.recalled N cs letter) (λ x s. Charged s)
   unfolding C.recalled
   recalled-charged [] (good x) = returns x (λ s h. h)
   recalled-charged [] (bad r) = refuses r

@@ -367,7 +367,7 @@ module _ (N : ℕ) where
   unfolding C.leave
   leave-fine l a = bind _ (if-fine (l .remembered) (remember-fine _) (ret-fine tt tt)) λ _ _. given-fine (l .copies) (push-fine _) (λ times. copied-fine times _)
 
-  recalled-fine : (cs : List Op.Copies) (l : Late Done) → T (late-in-run l) → Fine Any (C.recalled N cs l)
+  recalled-fine : (cs : List Op.Substitution) (l : Late Done) → T (late-in-run l) → Fine Any (C.recalled N cs l)
   unfolding C.recalled
   recalled-fine [] (good x) h = ret-fine x tt
   recalled-fine [] (bad r) h = refuse-fine r h
@@ -463,7 +463,7 @@ choose-late-fine {A} table = record { at = go }
     go (c ∷ t) = late (pick c table)
 
 -- `A`
-substitutions-from-fine : (f : ℕ) (repeat : Option ℕ) (done : List Op.Copies) (t : Text) → Result Carries (Op.substitutions-from f repeat done t)
+substitutions-from-fine : (f : ℕ) (repeat : Option ℕ) (done : List Op.Substitution) (t : Text) → Result Carries (Op.substitutions-from f repeat done t)
 unfolding Op.substitutions-from C.row
 substitutions-from-fine zero repeat done t = tt
 substitutions-from-fine (suc f) repeat done [] = tt

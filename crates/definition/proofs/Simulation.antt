@@ -1,27 +1,28 @@
 -- The check's machine goes as the machine of trees: what that means, and the parts that operators are made of.
-use mathlib.Core.Path.{_≡_, refl, sym, ap, _∙_, subst}
-use mathlib.Core.Bool.{Bool, true, false, _&&_, _||_, not}
+use mathlib.Core.Path.{_≡_, refl, sym, ap, subst}
+use mathlib.Core.Bool.{Bool, true, false, _&&_, not}
 use mathlib.Core.List.{List, [], _∷_, _++_, map, map-append}
 use mathlib.Core.Option.{Option, some, none}
-use Prim.Native.Nat.{ℕ, zero, suc, _+_, _*_, _-_}
+use Prim.Native.Nat.{ℕ, zero, suc, _+_, _-_}
 use native.Mathlib.Omega.{arith}
 use lib.Dec.{T, eqb, eqb→eq, eqb·suc-zero}
 use lib.ListN.{length, length-map, getElem?, replicate}
-use Rattle.definition.specs.Base.{Name, if_then_else_, given, is-some, Out, ok, refused, Step, Done, ret, refuse, and-then, _>>=_, _>>_, Late, good, bad, judge}
+use Rattle.definition.specs.Base.{Name, if_then_else_, given, is-some, Out, ok, refused, Step, Done, ret, refuse, and-then, _>>=_, Late, good, bad, judge}
 use Rattle.definition.specs.Words.{is-empty}
 use Rattle.definition.specs.Kind as K
 use Rattle.definition.specs.Kind.{Entry, entry}
 use Rattle.definition.specs.Node as N
-use Rattle.definition.specs.Node.{Labels, Node, Nodes, nil, cons, View, named, listed, taking, under, composed, other, Identifier, Module, Nominal, GenericParam, DependentMember, Tuple, FunctionType, GenericType, GenericSignature, ConformanceRequirement, SameTypeRequirement, ProtocolList, Metatype, InOut, BoundGeneric, Function, Variable, Accessor, Initializer, Deinitializer, VariableInitializer, Static, Record, Conformance, ProtocolWitness, ValueWitness, EmptyList, FirstElementMarker, VariadicMarker, Throws, Async, LazyWitness, AssociatedConformance, nominal-kind, kind, size, sizes, count, many, view, param-count, name-of, inner-of, first-of, member-of, entry-of}
+use Rattle.definition.specs.Node.{Labels, Node, Nodes, nil, cons, View, named, listed, with-params, under, composed, other, Module, Nominal, Tuple, GenericType, ProtocolList, nominal-kind, kind, size, sizes, count, many, view, param-count, inner-of, only-of, member-of, entry-of}
 use Rattle.definition.specs.Budget as B
 use Rattle.definition.specs.Budget.{Budget}
 use Rattle.definition.specs.Machine as M
-use Rattle.definition.specs.Machine.{Machine, machine, restack, spent, spend, wrap, know, remember, recall, push, push-copies, rounds}
+use Rattle.definition.specs.Machine.{machine, restack, spent, spend, wrap, know, remember, recall, push, push-copies, rounds}
 use Rattle.definition.specs.Perform as R
 use Rattle.definition.specs.Perform.{Demangler, Run}
 use Rattle.definition.specs.Shape as C
 use Rattle.definition.specs.Shape.{Shapes, Check, kind-of, Taken, taken}
 use Rattle.definition.proofs.SameText.{failed}
+use Rattle.definition.proofs.Matches.{not-one, ViewedAs, viewed, the-name, the-member, name-in-is, context-in-is, protocol-in-is, label-in-is, arity-is}
 
 -- WHAT HOLDS OF A MACHINE OF TREES
 abbrev pub All : (Node → Type 0) → List Node → Type 0
@@ -40,7 +41,7 @@ Members (cons l n ns) = IsProtocol n × Members ns
 abbrev pub MembersOf : View → Type 0
 MembersOf (named x) = Unit {0}
 MembersOf (listed es) = Unit {0}
-MembersOf (taking p) = Unit {0}
+MembersOf (with-params p) = Unit {0}
 MembersOf (under i) = Unit {0}
 MembersOf (composed ps) = Members ps
 MembersOf other = Unit {0}
@@ -228,71 +229,23 @@ given-sim l (some n) g h c = c n g
 
 -- WHAT SEVERAL OPERATORS TAKE
 pub name-in-sim : (n : Node) → Sim {A = Name} {B = Done} Any dropped (R.name-in n) (C.name-in (entry-of n))
-unfolding R.name-in C.name-in
-name-in-sim n = if-sim (K.is-identifier (kind n)) (λ _. ret-sim _ tt) (λ _. refuse-sim 10)
+unfolding C.name-in
+name-in-sim n = rw (name-in-is n) (if-sim (K.is-identifier (kind n)) (λ _. ret-sim _ tt) (λ _. refuse-sim 10))
 
 pub pop-name-sim : Sim {A = Name} {B = Done} Any dropped R.pop-name C.pop-name
 unfolding R.pop-name C.pop-name
 pop-name-sim = bind _ _ pop-sim λ n g. name-in-sim n
 
 pub context-in-sim : (n : Node) → Good n → Sim Good entry-of (R.context-in n) (C.context-in (entry-of n))
-unfolding R.context-in C.context-in size count kind view
+unfolding C.context-in size count kind view
 context-in-sim n g =
-    if-sim (K.is-identifier (kind n)) (λ _. ret-sim (Module (name-of n)) (tt, tt)) λ _.
-    if-sim (K.is-context (kind n)) (λ _. ret-sim n g) (λ _. refuse-sim 10)
+    rw (context-in-is n)
+    (if-sim (K.is-identifier (kind n)) (λ _. ret-sim (Module (the-name n)) (tt, tt)) λ _.
+    if-sim (K.is-context (kind n)) (λ _. ret-sim n g) (λ _. refuse-sim 10))
 
 pub context-sim : Sim Good entry-of R.context C.context
 unfolding R.context C.context
 context-sim = bind _ _ pop-sim λ n g. context-in-sim n g
-
--- A node by its view: all that the laws below need of the 35 kinds
-abbrev ViewedAs : Node → View → Type 0
-ViewedAs n (named x) = n ≡ Identifier x
-ViewedAs n (listed es) = n ≡ Tuple es
-ViewedAs n (taking p) = (r : Node) × (t : Bool) × (a : Bool) × (n ≡ FunctionType p r t a)
-ViewedAs n (under i) = (s : Node) × (n ≡ GenericType s i)
-ViewedAs n (composed ps) = n ≡ ProtocolList ps
-ViewedAs n other = T (not (eqb (kind n) K.tuple)) × T (not (eqb (kind n) K.protocol-list))
-
-viewed : (n : Node) → ViewedAs n (view n)
-unfolding kind view nominal-kind
-viewed (Identifier a) = refl
-viewed (Module a) = (tt, tt)
-viewed (Nominal N.Class c n) = (tt, tt)
-viewed (Nominal N.Struct c n) = (tt, tt)
-viewed (Nominal N.Enum c n) = (tt, tt)
-viewed (Nominal N.Protocol c n) = (tt, tt)
-viewed (Nominal N.TypeAlias c n) = (tt, tt)
-viewed (GenericParam d i) = (tt, tt)
-viewed (DependentMember b n) = (tt, tt)
-viewed (Tuple es) = refl
-viewed (FunctionType p r t a) = (r, t, a, refl)
-viewed (GenericType s i) = (s, refl)
-viewed (GenericSignature p rs) = (tt, tt)
-viewed (ConformanceRequirement p q) = (tt, tt)
-viewed (SameTypeRequirement p q) = (tt, tt)
-viewed (ProtocolList ps) = refl
-viewed (Metatype n) = (tt, tt)
-viewed (InOut n) = (tt, tt)
-viewed (BoundGeneric b args) = (tt, tt)
-viewed (Function c n l t) = (tt, tt)
-viewed (Variable c n t) = (tt, tt)
-viewed (Accessor k n) = (tt, tt)
-viewed (Initializer a c l t) = (tt, tt)
-viewed (Deinitializer d c) = (tt, tt)
-viewed (VariableInitializer n) = (tt, tt)
-viewed (Static n) = (tt, tt)
-viewed (Record w n) = (tt, tt)
-viewed (Conformance t p m) = (tt, tt)
-viewed (ProtocolWitness e c) = (tt, tt)
-viewed (ValueWitness k t) = (tt, tt)
-viewed EmptyList = (tt, tt)
-viewed FirstElementMarker = (tt, tt)
-viewed VariadicMarker = (tt, tt)
-viewed Throws = (tt, tt)
-viewed Async = (tt, tt)
-viewed (LazyWitness w t c) = (tt, tt)
-viewed (AssociatedConformance p q n r) = (tt, tt)
 
 -- the parameters of a function type by the entry of its parameter node
 pub params-by-entry : (p : Node) → param-count p ≡ (if eqb (kind p) K.tuple then count p else 1)
@@ -302,7 +255,7 @@ params-by-entry p = go (view p) refl (viewed p)
     go : (w : View) → view p ≡ w → ViewedAs p w → param-count p ≡ (if eqb (kind p) K.tuple then count p else 1)
     go (named x) e v = rw v refl
     go (listed es) e v = rw v refl
-    go (taking q) e v = rw (v .3) refl
+    go (with-params q) e v = rw (v .3) refl
     go (under i) e v = rw (v .1) refl
     go (composed ps) e v = rw v refl
     go other e v = rw (e, param-count, failed (eqb (kind p) K.tuple) (v .0)) refl
@@ -315,26 +268,23 @@ protocol-count n = go (view n) refl (viewed n)
     go : (w : View) → view n ≡ w → ViewedAs n w → T (K.is-protocol (kind n)) → count n ≡ 0
     go (named x) e v = rw v (λ h. refl)
     go (listed es) e v = rw v (λ h. absurd h)
-    go (taking q) e v = rw (v .3) (λ h. absurd h)
+    go (with-params q) e v = rw (v .3) (λ h. absurd h)
     go (under i) e v = rw (v .1) (λ h. absurd h)
     go (composed ps) e v = rw v (λ h. absurd h)
     go other e v = rw (e, count) (λ h. refl)
 
 -- the one member of a protocol list is a protocol, one node smaller than the list
 pub record OnlyMember (n : Node) : Type 0 where
-  pub entry-is : entry K.protocol (size n - 1) 0 ≡ entry-of (member-of n)
-  pub is-protocol : IsProtocol (member-of n)
+  pub entry-is : entry K.protocol (size n - 1) 0 ≡ entry-of (the-member n)
+  pub is-protocol : IsProtocol (the-member n)
 
-not-one : (n : ℕ) → T (eqb (suc (suc n)) 1) → ⊥
-not-one n h = omega (arith, eqb→eq (suc (suc n)) 1 h)
-
-only-of : (ps : Nodes) → Members ps → T (eqb (many ps) 1) → OnlyMember (ProtocolList ps)
-unfolding many member-of first-of view size
-only-of nil g h = absurd h
-only-of (cons l x nil) g h =
+only-in : (ps : Nodes) → Members ps → T (eqb (many ps) 1) → OnlyMember (ProtocolList ps)
+unfolding many member-of only-of the-member view size
+only-in nil g h = absurd h
+only-in (cons l x nil) g h =
     let one-less : 1 + (size x + 0) - 1 ≡ size x = omega arith in
     record { entry-is = λ i. entry (sym (g .0 .0) i) (one-less i) (sym (g .0 .1) i); is-protocol = g .0 }
-only-of (cons l x (cons l₂ y ns)) g h = absurd (not-one (many ns) h)
+only-in (cons l x (cons l₂ y ns)) g h = absurd (subst T (not-one (many ns)) h)
 
 pub only-member : (n : Node) → Good n → T (eqb (kind n) K.protocol-list && eqb (count n) 1) → OnlyMember n
 unfolding count kind view
@@ -351,17 +301,18 @@ only-member n = go (view n) refl (viewed n)
     go : (w : View) → view n ≡ w → ViewedAs n w → Good n → T (eqb (kind n) K.protocol-list && eqb (count n) 1) → OnlyMember n
     go (named x) e v = rw v (λ g h. absurd h)
     go (listed es) e v = rw v (λ g h. absurd h)
-    go (taking q) e v = rw (v .3) (λ g h. absurd h)
+    go (with-params q) e v = rw (v .3) (λ g h. absurd h)
     go (under i) e v = rw (v .1) (λ g h. absurd h)
-    go (composed ps) e v = rw v (λ g h. only-of ps (g .1) h)
+    go (composed ps) e v = rw v (λ g h. only-in ps (g .1) h)
     go other e v = λ g h. absurd (not-both (eqb (kind n) K.protocol-list) (eqb (count n) 1) (v .1) h)
 
 pub protocol-in-sim : (n : Node) → Good n → Sim IsProtocol entry-of (R.protocol-in n) (C.protocol-in (entry-of n))
-unfolding R.protocol-in C.protocol-in size count kind nominal-kind view
+unfolding C.protocol-in size count kind nominal-kind view
 protocol-in-sim n g =
-    if-sim (K.is-protocol (kind n)) (λ h. ret-sim n (eqb→eq (kind n) K.protocol h, protocol-count n h)) λ _.
-    if-sim (eqb (kind n) K.protocol-list && eqb (count n) 1) (λ h. let o = only-member n g h in rw (o .entry-is) (ret-sim (member-of n) (o .is-protocol))) λ _.
-    if-sim (K.is-identifier (kind n)) (λ _. bind _ _ context-sim λ c _. ret-sim (Nominal N.Protocol c (name-of n)) (refl, refl)) (λ _. refuse-sim 10)
+    rw (protocol-in-is n)
+    (if-sim (K.is-protocol (kind n)) (λ h. ret-sim n (eqb→eq (kind n) K.protocol h, protocol-count n h)) λ _.
+    if-sim (eqb (kind n) K.protocol-list && eqb (count n) 1) (λ h. let o = only-member n g h in rw (o .entry-is) (ret-sim (the-member n) (o .is-protocol))) λ _.
+    if-sim (K.is-identifier (kind n)) (λ _. bind _ _ context-sim λ c _. ret-sim (Nominal N.Protocol c (the-name n)) (refl, refl)) (λ _. refuse-sim 10))
 
 pub protocol-sim : Sim IsProtocol entry-of R.protocol C.protocol
 unfolding R.protocol C.protocol
@@ -404,8 +355,8 @@ requirements-sim (suc f) es = bind _ _ (try-sim K.is-requirement) λ o g. given-
 
 -- LABELS
 pub label-in-sim : (n : Node) → Sim {A = Option Name} {B = Done} Any dropped (R.label-in n) (C.label-in (entry-of n))
-unfolding R.label-in C.label-in
-label-in-sim n = if-sim (K.is-identifier (kind n)) (λ _. ret-sim _ tt) λ _. if-sim (eqb (kind n) K.first-element-marker) (λ _. ret-sim _ tt) (λ _. refuse-sim 10)
+unfolding C.label-in
+label-in-sim n = rw (label-in-is n) (if-sim (K.is-identifier (kind n)) (λ _. ret-sim _ tt) λ _. if-sim (eqb (kind n) K.first-element-marker) (λ _. ret-sim _ tt) (λ _. refuse-sim 10))
 
 pub labels-from-sim : (k : ℕ) (ls : List (Option Name)) → Sim {A = List (Option Name)} {B = Done} Any dropped (R.labels-from k ls) (C.labels-from k)
 unfolding R.labels-from C.labels-from
@@ -433,8 +384,7 @@ labels-sim n empty = if-sim empty (λ _. ret-sim _ tt) (λ _. go n)
 -- SIGNATURES
 -- a type that is no generic type asks for the labels of its own parameters
 arity-plain : (t : Node) → Good t → R.arity t ≡ R.arity-of t
-unfolding R.arity
-arity-plain t g = rw (failed (eqb (kind t) K.generic-type) (g .0), R.arity) refl
+arity-plain t g = rw (arity-is t, failed (eqb (kind t) K.generic-type) (g .0)) refl
 
 -- the type under a signature that was taken, or by itself: how many labels it asks for, and its size by what the check took
 pub record UnderSignature (o : Option Node) (t : Node) (z : ℕ) (ty : Node) : Type 0 where

@@ -230,7 +230,7 @@ module _ (N : ℕ) where
   unfolding C.leave
   independent-leave l a = bind (independent-if (l .remembered) (independent-remember _) (independent-ret _)) λ _. independent-given (l .copies) _ (independent-push _) λ times. independent-copied times _
 
-  independent-recalled : (cs : List Op.Copies) (l : Late Done) → Independent (C.recalled N cs l)
+  independent-recalled : (cs : List Op.Substitution) (l : Late Done) → Independent (C.recalled N cs l)
   unfolding C.recalled
   independent-recalled [] l = independent-judge l
   independent-recalled (c ∷ cs) l = bind (independent-recall _) λ e. bind (independent-copied _ e) λ _. independent-recalled cs l

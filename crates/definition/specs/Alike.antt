@@ -1,4 +1,5 @@
--- Demand 3, "Judging alike": what is claimed. proofs/JudgingAlike.antt has the theorem.
+-- Demand 3, "Judging alike": what is claimed (`Demand3`, at the end). proofs/JudgingAlike.antt has
+-- the theorem.
 use mathlib.Core.Path.{_≡_}
 use mathlib.Core.Bool.{Bool, not, _||_}
 use mathlib.Core.List.{List}
@@ -6,7 +7,7 @@ use Prim.Native.Nat.{ℕ, _*_, _≤_, _<_}
 use lib.Dec.{T, eqb, leb}
 use lib.ListN.{length}
 use Rattle.definition.specs.Text.{Text}
-use Rattle.definition.specs.Calls.{Answer, refusal, good-ceiling}
+use Rattle.definition.specs.Calls.{Answer, refusal, good-ceiling, reading-needs, check-needs}
 use Rattle.definition.specs.Reading.{read, read-type, demangle, demangle-type, demangle-stopped, demangle-type-stopped}
 use Rattle.definition.specs.Check.{shape, shape-type, shape-stopped, shape-type-stopped}
 
@@ -21,8 +22,10 @@ with-text text c = record {
   written = text;
 }
 
--- The answers of a whole reading and a whole check of one text, which the definition reads as `text`: equal number and place where the check
--- refuses; equal steps, total and wraps where it accepts, 12 excepted, which the reading gives exactly where the text is longer than the output
+-- The answers of a whole reading and a whole check of one text, which the definition reads as
+-- `text`: one answer where the check refuses; where it accepts, the reading answers with the text
+-- and the check's number, place and counts, or with 12, exactly where the text is longer than the
+-- output
 pub record WholeAlike (out : ℕ) (text : List ℕ) (reading check : Answer) : Type 0 where
   pub refused : T (not (eqb (check .values .number) 0)) → reading ≡ check
   pub accepted : T (eqb (check .values .number) 0) → length text ≤ out → reading ≡ with-text text check
@@ -35,3 +38,10 @@ pub record JudgedAlike (t : Text) (N k reading-workspace check-workspace out : �
   -- stopped: one answer, and the same entries, which `Reading.stopped-after` takes from the trees on the stack
   pub symbol-stopped : demangle-stopped t N k reading-workspace out ≡ shape-stopped t N k check-workspace out
   pub type-stopped : demangle-type-stopped t N k reading-workspace out ≡ shape-type-stopped t N k check-workspace out
+
+-- Demand 3: every text is judged alike, with every ceiling, k, output length and workspaces that
+-- are enough
+abbrev pub Demand3 : Type 0
+Demand3 =
+    (t : Text) (N k reading-workspace check-workspace out : ℕ) → T (enough reading-needs N reading-workspace) → T (enough check-needs N check-workspace) →
+    JudgedAlike t N k reading-workspace check-workspace out

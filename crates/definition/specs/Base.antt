@@ -22,19 +22,19 @@ bytes (c ∷ˢ s) = code c ∷ bytes s
 abbrev pub is : Char → ℕ → Bool
 is c b = eqb b (code c)
 
--- b lies between two letters, both included
-abbrev pub within : Char → Char → ℕ → Bool
-within lo hi b = leb (code lo) b && leb b (code hi)
+-- b is between lo and hi, both included
+abbrev pub between : ℕ → ℕ → ℕ → Bool
+between lo hi b = leb lo b && leb b hi
 
 -- is_ascii_digit, is_ascii_lowercase, is_ascii_uppercase
 abbrev pub digit : ℕ → Bool
-digit b = within "0" "9" b
+digit b = between (code "0") (code "9") b
 
 abbrev pub lower : ℕ → Bool
-lower b = within "a" "z" b
+lower b = between (code "a") (code "z") b
 
 abbrev pub upper : ℕ → Bool
-upper b = within "A" "Z" b
+upper b = between (code "A") (code "Z") b
 
 -- two texts are the same
 abbrev pub same : Name → Name → Bool
@@ -43,7 +43,8 @@ same [] (y ∷ ys) = false
 same (x ∷ xs) [] = false
 same (x ∷ xs) (y ∷ ys) = eqb x y && same xs ys
 
--- the decimal digits of n, in front of what follows; f bounds their number
+-- the decimal digits of n, in front of what follows; f bounds their number and is never reached
+-- (proofs/Bounds `digits-bound`, `decimal-any`)
 unfoldable pub decimal-before : ℕ → ℕ → Name → Name
 decimal-before zero n tail = tail
 decimal-before (suc f) n tail = elim (ltb n 10) [
@@ -128,7 +129,7 @@ abbrev pub judge : {S A : Type 0} → Late A → Step S A
 judge (good a) s = ok a s
 judge (bad r) s = refused r
 
--- to name this on an `unfolding` line is to open every definition up to here
+-- FOR PROOFS ONLY: this name on an `unfolding` line opens every definition up to here
 unfoldable pub opened : ℕ
 unfolding bytes decimal-before decimal is-some pick
 opened = 0

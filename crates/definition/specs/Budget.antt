@@ -38,7 +38,7 @@ charge N n b = if leb (b .total + n) N then ok tt (budget (b .steps) (b .total +
 unfoldable pub wrap : Step Budget Done
 wrap b = if ltb (b .wraps) most-wraps then ok tt (budget (b .steps) (b .total) (suc (b .wraps))) else refused 8
 
--- to name this on an `unfolding` line is to open every definition up to here
+-- FOR PROOFS ONLY: this name on an `unfolding` line opens every definition up to here
 unfoldable pub opened : ℕ
 unfolding fresh step charge wrap
 opened = 0

@@ -12,7 +12,7 @@ use Rattle.definition.specs.Text.{Text, Symbol, ill-formed, split}
 use Rattle.definition.specs.Kind.{Entry}
 use Rattle.definition.specs.Kind as K
 use Rattle.definition.specs.Budget as B
-use Rattle.definition.specs.Budget.{Budget, most-nodes}
+use Rattle.definition.specs.Budget.{Budget, most-steps, most-nodes}
 use Rattle.definition.specs.Machine.{Machine, spend}
 
 -- WHAT A CALL ANSWERS
@@ -47,8 +47,8 @@ unfoldable pub good-ceiling : ℕ → Bool
 good-ceiling N = ltb 0 N && leb N most-nodes
 
 -- 1 to 4 in order, for a call that needs that many numbers of workspace a node; then what is read
-unfoldable pub checked : (need N workspace : ℕ) → Text → Answer → Answer
-checked need N workspace t rest = elim (good-ceiling N) [
+unfoldable pub admit : (need N workspace : ℕ) → Text → Answer → Answer
+admit need N workspace t rest = elim (good-ceiling N) [
   | false ↦ refusal 1 0
   | true ↦ elim (leb (need * N) workspace) [
     | false ↦ refusal 2 0
@@ -84,7 +84,7 @@ unfoldable pub then-run : {S A : Type 0} → Out Text A → (A → Step S Done) 
 then-run (ok a u) f = f a >> ret u
 then-run (refused r) f = refuse r
 
--- one turn of `run` (lines 691 to 698): a step, a charge of 1, an operator
+-- one turn of `run` (lines 691 to 697): a step, a charge of 1, an operator
 unfoldable pub turn : {A W : Type 0} → (N : ℕ) → (Text → Step (Machine A W) Text) → Text → Step (Machine A W) Text
 turn N operator t = do
   spend B.step
@@ -102,9 +102,10 @@ unfoldable pub ended : {S : Type 0} → Symbol → End S → (S → Answer) → 
 ended s (ran m) read = read m
 ended s (stopped r left) read = refusal r (s .start + (length (s .body) - left))
 
--- no whole run makes more turns: the 4,097th is refused
+-- a whole run: more turns than there are steps, so that the last would be refused
+-- (proofs/WholeRuns: where none is refused, no text is left)
 abbrev pub all-turns : ℕ
-all-turns = 4097
+all-turns = suc most-steps
 
 -- THE FINAL CHECK. 11, at the body's end: not exactly one node left, or one of a kind that is not taken
 -- (a symbol takes all but a bare identifier, line 682; a type takes types, line 52)
@@ -126,7 +127,7 @@ unfoldable pub entry-numbers : List Entry → List ℕ
 entry-numbers [] = []
 entry-numbers (e ∷ es) = e .kind ∷ e .size ∷ e .count ∷ entry-numbers es
 
--- to name this on an `unfolding` line is to open every definition up to here
+-- FOR PROOFS ONLY: this name on an `unfolding` line opens every definition up to here
 unfoldable pub opened : ℕ
-unfolding opened₀ opened₁ refusal accepted within good-ceiling checked symbol then-run turn turns ended symbol-kind single finished entry-numbers
+unfolding opened₀ opened₁ refusal accepted within good-ceiling admit symbol then-run turn turns ended symbol-kind single finished entry-numbers
 opened = 0

@@ -15,7 +15,7 @@ use Rattle.definition.specs.Kind as K
 use Rattle.definition.specs.Operators.{operator}
 use Rattle.definition.specs.Machine.{fresh, know, remember, push}
 use Rattle.definition.specs.Shape.{Check, kind-of, row, run-row}
-use Rattle.definition.specs.Calls.{Answer, accepted, within, checked, check-needs, symbol, whole-text, then-run, turn, turns, ended, all-turns, symbol-kind, finished, entry-numbers}
+use Rattle.definition.specs.Calls.{Answer, accepted, within, admit, check-needs, symbol, whole-text, then-run, turn, turns, ended, all-turns, symbol-kind, finished, entry-numbers}
 
 -- WORDS, AS A COUNT (01, "Shape entries")
 -- a word of so many bytes has ended
@@ -64,6 +64,7 @@ pub record Identified : Type 0 where
 abbrev pub identified : Bool → ℕ → Identified
 identified e n = record { empty = e; words = n }
 
+-- f is never reached (proofs/Bounds `identifier-count-bound`, `identifier-count-any`)
 unfoldable pub identifier-from : ℕ → (has-word-substitutions punycoded : Bool) → ℕ → Bool → Lex Identified
 identifier-from zero subs punycoded words empty = refuse 9
 identifier-from (suc f) subs punycoded words empty = do
@@ -107,18 +108,18 @@ module _ (N : ℕ) where
 
 -- THE CALLS: a text, the ceiling, how many turns where stopped, how many numbers of workspace, how long the output slice
 unfoldable pub shape : Text → (N workspace : ℕ) → Answer
-shape t N workspace = let r : Answer = symbol t (whole N symbol-kind) in checked check-needs N workspace t r
+shape t N workspace = let r : Answer = symbol t (whole N symbol-kind) in admit check-needs N workspace t r
 
 unfoldable pub shape-type : Text → (N workspace : ℕ) → Answer
-shape-type t N workspace = let r : Answer = whole N K.is-type (whole-text t) in checked check-needs N workspace t r
+shape-type t N workspace = let r : Answer = whole N K.is-type (whole-text t) in admit check-needs N workspace t r
 
 unfoldable pub shape-stopped : Text → (N k workspace out : ℕ) → Answer
-shape-stopped t N k workspace out = let r : Answer = symbol t (stopped-after N k) in within out (checked check-needs N workspace t r)
+shape-stopped t N k workspace out = let r : Answer = symbol t (stopped-after N k) in within out (admit check-needs N workspace t r)
 
 unfoldable pub shape-type-stopped : Text → (N k workspace out : ℕ) → Answer
-shape-type-stopped t N k workspace out = let r : Answer = stopped-after N k (whole-text t) in within out (checked check-needs N workspace t r)
+shape-type-stopped t N k workspace out = let r : Answer = stopped-after N k (whole-text t) in within out (admit check-needs N workspace t r)
 
--- to name this on an `unfolding` line is to open every definition up to here
+-- FOR PROOFS ONLY: this name on an `unfolding` line opens every definition up to here
 unfoldable pub opened : ℕ
 unfolding opened₀ opened₁ keep-count count-words-from word-letters identifier-from identifier name one whole stopped-after shape shape-type shape-stopped shape-type-stopped
 opened = 0

@@ -1,4 +1,7 @@
--- What each case of the enums of src/lib.rt means: document 01's number and values, or the definition's operator.
+-- What each case of the enums of src/lib.rt means. A reader must believe `number` and `values`,
+-- document 01's number and values of an answer; what follows them (from `nominal-kind` on) is FOR
+-- CODE ONLY: which operator of specs/Operators a case of the code's enums means, so that the
+-- contracts of the crates can name it.
 use mathlib.Core.Bool.{Bool, true, false}
 use mathlib.Core.Option.{some, none}
 use Prim.Native.Nat.{ℕ}

@@ -1,4 +1,5 @@
--- 01, "The key": calls and their answers at N = 65,536, as tables. proofs/Key.antt has the theorems.
+-- 01, "The key": calls and their answers at N = 65,536, as tables. proofs/KeyHolds.antt has the
+-- theorems.
 use mathlib.Core.Bool.{Bool, true, false, _&&_}
 use mathlib.Core.List.{List, [], _∷_}
 use Prim.Native.Nat.{ℕ, _*_}
@@ -63,21 +64,21 @@ answer (type s) = demangle-type (bytes s) 65536 (64 * 65536) 16384
 unfoldable pub wrote : Answer → String → Bool
 wrote a s = eqb (a .values .number) 0 && eqb (a .values .place) 0 && same (a .written) (bytes s) && eqb (a .values .length) (length (bytes s))
 
-unfoldable pub counts : Answer → ℕ → ℕ → ℕ → Bool
-counts a n t w = eqb (a .values .steps) n && eqb (a .values .total) t && eqb (a .values .wraps) w
+unfoldable pub has-counts : Answer → ℕ → ℕ → ℕ → Bool
+has-counts a n t w = eqb (a .values .steps) n && eqb (a .values .total) t && eqb (a .values .wraps) w
 
 -- the counts where the row has them; a refusal has zero counts and length 0, and writes nothing
 unfoldable pub gave : Answer → Gives → Bool
 gave a (text s) = wrote a s
-gave a (counted s n t w) = wrote a s && counts a n t w
+gave a (counted s n t w) = wrote a s && has-counts a n t w
 gave a (refuses n p) =
-    eqb (a .values .number) n && eqb (a .values .place) p && counts a 0 0 0 && same (a .written) [] && eqb (a .values .length) 0
+    eqb (a .values .number) n && eqb (a .values .place) p && has-counts a 0 0 0 && same (a .written) [] && eqb (a .values .length) 0
 
 unfoldable pub holds : List (Call × Gives) → Bool
 holds [] = true
 holds (r ∷ rs) = gave (answer (r .0)) (r .1) && holds rs
 
--- to name this on an `unfolding` line is to open every definition up to here
+-- FOR PROOFS ONLY: this name on an `unfolding` line opens every definition up to here
 unfoldable pub opened : ℕ
-unfolding opened₀ key shut-out answer wrote counts gave holds
+unfolding opened₀ key shut-out answer wrote has-counts gave holds
 opened = 0

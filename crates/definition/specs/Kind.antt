@@ -1,8 +1,10 @@
--- 01, "Shape entries": the kinds by number, and the four groups that `is_type`, `is_entity`, `is_context`, `is_protocol` name (lines 212 to 253).
--- The kinds are the cases of `Node` in the source's order (lines 83 to 200), with `Nominal` split by its five in theirs.
-use mathlib.Core.Bool.{Bool, _&&_, _||_}
+-- 01, "Shape entries": the kinds by number, and the four groups that `is_type`, `is_entity`,
+-- `is_context`, `is_protocol` name. The kinds are the cases of `Node` in the source's order (lines
+-- 83 to 200), with `Nominal` split by its five in theirs.
+use mathlib.Core.Bool.{Bool, false, _||_}
+use mathlib.Core.List.{List, [], _∷_, _++_}
 use Prim.Native.Nat.{ℕ}
-use lib.Dec.{eqb, leb}
+use lib.Dec.{eqb}
 
 abbrev pub identifier : ℕ
 identifier = 0
@@ -109,15 +111,29 @@ throws = 33
 abbrev pub async : ℕ
 async = 34
 
+-- THE GROUPS, each with its kinds in the source's order
+-- k is one of these
+abbrev pub among : List ℕ → ℕ → Bool
+among [] k = false
+among (x ∷ xs) k = eqb k x || among xs k
+
+-- the five of `Nominal`
+abbrev pub nominals : List ℕ
+nominals = class ∷ struct ∷ enum ∷ protocol ∷ type-alias ∷ []
+
+-- lines 212 to 223
 abbrev pub is-entity : ℕ → Bool
-is-entity k = leb function k && leb k static
+is-entity k = among (function ∷ variable ∷ accessor ∷ initializer ∷ deinitializer ∷ variable-initializer ∷ static ∷ []) k
 
+-- lines 225 to 227
 abbrev pub is-context : ℕ → Bool
-is-context k = (leb module-kind k && leb k type-alias) || is-entity k
+is-context k = among (module-kind ∷ nominals) k || is-entity k
 
+-- lines 229 to 243
 abbrev pub is-type : ℕ → Bool
-is-type k = (leb class k && leb k generic-type) || (leb protocol-list k && leb k bound-generic)
+is-type k = among (nominals ++ (generic-param ∷ dependent-member ∷ tuple ∷ function-type ∷ generic-type ∷ protocol-list ∷ metatype ∷ in-out ∷ bound-generic ∷ [])) k
 
+-- lines 245 to 253
 abbrev pub is-protocol : ℕ → Bool
 is-protocol k = eqb k protocol
 

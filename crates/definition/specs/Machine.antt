@@ -56,7 +56,8 @@ module _ {A W : Type 0} where
   unfoldable pub push-copies : ℕ → A → Step (Machine A W) Done
   push-copies k n m = ok tt (restack (replicate k n ++ m .stack) m)
 
-  -- no loop over the stack has more rounds than this
+  -- the bound of a loop over the stack, which is never reached: each round takes a node
+  -- (proofs/Bounds, a law for each loop, and `rounds-enough`)
   unfoldable pub rounds : Step (Machine A W) ℕ
   rounds m = ok (suc (length (m .stack))) m
 
@@ -86,7 +87,7 @@ module _ {A W : Type 0} (kind : A → ℕ) where
   unfoldable pub took : ℕ → Step (Machine A W) Bool
   took k = try (eqb k) >>= λ o. ret (is-some o)
 
--- to name this on an `unfolding` line is to open every definition up to here
+-- FOR PROOFS ONLY: this name on an `unfolding` line opens every definition up to here
 unfoldable pub opened : ℕ
 unfolding opened₀ spend wrap know remember recall push push-copies rounds pop-from pop-if pop try-from try took
 opened = 0

@@ -1,7 +1,7 @@
 -- 01, "Nodes": the tree of a name; its kind, size and count.
 use mathlib.Core.Bool.{Bool}
 use mathlib.Core.List.{List, []}
-use mathlib.Core.Option.{Option}
+use mathlib.Core.Option.{Option, some, none}
 use Prim.Native.Nat.{ℕ, suc, _+_}
 use Rattle.definition.specs.Words.{opened as opened₀}
 use Rattle.definition.specs.Base.{Name}
@@ -15,8 +15,9 @@ pub data NominalKind : Type 0 where
 abbrev pub Labels : Type 0
 Labels = Option (List (Option Name))
 
--- lines 83 to 200. The last two are forms of their own for records about an identifier whose text the Rust prints ahead (`Wl` and `WL`, lines
--- 1532 to 1550; `Tn`, lines 1642 to 1662): they keep what is printed, with no qualifier or one. Their kind is `Record`
+-- lines 83 to 200. The last two are forms of their own for records about an identifier whose text
+-- the Rust prints ahead (`Wl` and `WL`, lines 1531 to 1549; `Tn`, lines 1643 to 1662): they keep
+-- what is printed, with no qualifier or one. Their kind is `Record`
 mutual
   pub data Node : Type 0 where
     Identifier : Name → Node
@@ -147,7 +148,7 @@ many (cons l n ns) = suc (many ns)
 pub data View : Type 0 where
   named : Name → View
   listed : Nodes → View
-  taking : (params : Node) → View
+  with-params : (params : Node) → View
   under : (inner : Node) → View
   composed : Nodes → View
   other : View
@@ -159,7 +160,7 @@ view (Nominal k c n) = other
 view (GenericParam d i) = other
 view (DependentMember b n) = other
 view (Tuple es) = listed es
-view (FunctionType p r t a) = taking p
+view (FunctionType p r t a) = with-params p
 view (GenericType s i) = under i
 view (GenericSignature p rs) = other
 view (ConformanceRequirement p q) = other
@@ -189,31 +190,33 @@ view (AssociatedConformance p q n r) = other
 
 -- the parameters of a function type whose parameter node is p: those of a tuple, else 1 (lines 1311 to 1314)
 unfoldable pub param-count : Node → ℕ
-param-count p = elim (view p) [ listed es ↦ many es | named _ ↦ 1 | taking _ ↦ 1 | under _ ↦ 1 | composed _ ↦ 1 | other ↦ 1 ]
+param-count p = elim (view p) [ listed es ↦ many es | named _ ↦ 1 | with-params _ ↦ 1 | under _ ↦ 1 | composed _ ↦ 1 | other ↦ 1 ]
 
 -- 01, "Shape entries": the elements of a tuple, the parameters of a function type, the members of a protocol list, else 0
 unfoldable pub count : Node → ℕ
-count n = elim (view n) [ listed es ↦ many es | taking p ↦ param-count p | composed ps ↦ many ps | named _ ↦ 0 | under _ ↦ 0 | other ↦ 0 ]
+count n = elim (view n) [ listed es ↦ many es | with-params p ↦ param-count p | composed ps ↦ many ps | named _ ↦ 0 | under _ ↦ 0 | other ↦ 0 ]
 
--- What is read out of a node whose kind was tested: the name of an identifier, the type under a signature, the one member of a list
-unfoldable pub name-of : Node → Name
-name-of n = elim (view n) [ named x ↦ x | listed _ ↦ [] | taking _ ↦ [] | under _ ↦ [] | composed _ ↦ [] | other ↦ [] ]
+-- What a `match` of the source takes out of a node: an identifier's name, the type under a
+-- signature, the member of a protocol list of one (line 1142)
+unfoldable pub name-of : Node → Option Name
+name-of n = elim (view n) [ named x ↦ some x | listed _ ↦ none | with-params _ ↦ none | under _ ↦ none | composed _ ↦ none | other ↦ none ]
 
-unfoldable pub inner-of : Node → Node
-inner-of n = elim (view n) [ under i ↦ i | named _ ↦ n | listed _ ↦ n | taking _ ↦ n | composed _ ↦ n | other ↦ n ]
+unfoldable pub inner-of : Node → Option Node
+inner-of n = elim (view n) [ under i ↦ some i | named _ ↦ none | listed _ ↦ none | with-params _ ↦ none | composed _ ↦ none | other ↦ none ]
 
-unfoldable pub first-of : Node → Nodes → Node
-first-of d nil = d
-first-of d (cons l n ns) = n
+unfoldable pub only-of : Nodes → Option Node
+only-of nil = none
+only-of (cons l n nil) = some n
+only-of (cons l n (cons l₂ n₂ ns)) = none
 
-unfoldable pub member-of : Node → Node
-member-of n = elim (view n) [ composed ps ↦ first-of n ps | named _ ↦ n | listed _ ↦ n | taking _ ↦ n | under _ ↦ n | other ↦ n ]
+unfoldable pub member-of : Node → Option Node
+member-of n = elim (view n) [ composed ps ↦ only-of ps | named _ ↦ none | listed _ ↦ none | with-params _ ↦ none | under _ ↦ none | other ↦ none ]
 
 -- the entry that a stopped reading writes of a tree
 abbrev pub entry-of : Node → K.Entry
 entry-of n = K.entry (kind n) (size n) (count n)
 
--- to name this on an `unfolding` line is to open every definition up to here
+-- FOR PROOFS ONLY: this name on an `unfolding` line opens every definition up to here
 unfoldable pub opened : ℕ
-unfolding opened₀ nominal-kind kind size sizes many view param-count count name-of inner-of first-of member-of
+unfolding opened₀ nominal-kind kind size sizes many view param-count count name-of inner-of only-of member-of
 opened = 0

@@ -38,16 +38,16 @@ pub data About : Type 0 where
   a-type an-entity a-context a-protocol a-conformance anything : About
 
 -- copies of a remembered node
-pub record Copies : Type 0 where
+pub record Substitution : Type 0 where
   pub times : ℕ
   pub index : ℕ
 
-abbrev pub copies : ℕ → ℕ → Copies
-copies t i = record { times = t; index = i }
+abbrev pub substitution : ℕ → ℕ → Substitution
+substitution t i = record { times = t; index = i }
 
 pub data Operator : Type 0 where
   -- what is pushed in order, and how the letters ended
-  substitutions : List Copies → Late Done → Operator
+  substitutions : List Substitution → Late Done → Operator
   nominal : NominalKind → Operator
   leaf : Leaf → Operator
   -- `S`: that many of it
@@ -85,18 +85,21 @@ unfoldable pub choose-late : {A : Type 0} → List (Char × A) → Lex (Late A)
 choose-late table [] = ok (bad 9) []
 choose-late table (c ∷ t) = ok (given (pick c table) (bad 9) good) t
 
--- lines 880 to 902: the copies so far; f bounds the letters. After `A` lower case goes on and a capital ends; `A_` is 26, `An_` is n + 27
-unfoldable pub substitutions-from : ℕ → Option ℕ → List Copies → Lex Operator
+-- lines 880 to 900, with line 907 for how many copies: what is copied so far; f bounds the letters
+-- and is reached only where no text is left, since each takes a byte (crate `substitutions`,
+-- proofs/ChainLaws `letters-are`). After `A` lower case goes on and a capital ends; `A_` is 26,
+-- `An_` is n + 27
+unfoldable pub substitutions-from : ℕ → Option ℕ → List Substitution → Lex Operator
 substitutions-from zero repeat done t = ok (substitutions done (bad 9)) t
 substitutions-from (suc f) repeat done [] = ok (substitutions done (bad 9)) []
 substitutions-from (suc f) repeat done (c ∷ t) =
     let times : ℕ = given repeat 1 (λ n. max n 1) in
     elim (lower c) [
-      | true ↦ substitutions-from f none (done ++ (copies times (c - code "a") ∷ [])) t
+      | true ↦ substitutions-from f none (done ++ (substitution times (c - code "a") ∷ [])) t
       | false ↦ elim (upper c) [
-        | true ↦ ok (substitutions (done ++ (copies times (c - code "A") ∷ [])) (good tt)) t
+        | true ↦ ok (substitutions (done ++ (substitution times (c - code "A") ∷ [])) (good tt)) t
         | false ↦ elim (is "_" c) [
-          | true ↦ ok (substitutions (done ++ (copies 1 (given repeat 26 (λ n. n + 27)) ∷ [])) (good tt)) t
+          | true ↦ ok (substitutions (done ++ (substitution 1 (given repeat 26 (λ n. n + 27)) ∷ [])) (good tt)) t
           | false ↦ elim (natural (c ∷ t)) [
             | ok n u ↦ substitutions-from f (some n) done u
             | refused r ↦ ok (substitutions done (bad r)) t
@@ -108,7 +111,7 @@ substitutions-from (suc f) repeat done (c ∷ t) =
 unfoldable pub substitutions-letters : Lex Operator
 substitutions-letters t = substitutions-from (length t) none [] t
 
--- lines 1712 to 1767
+-- lines 1711 to 1765
 unfoldable pub standard-types : List (Char × (NominalKind × String))
 standard-types =
     ("a", (Struct, "Array")) ∷
@@ -181,7 +184,7 @@ standard-letters t = (do
   c ← next
   standard-letter repeat c) t
 
--- `X` (lines 1038 to 1058); the byte behind `XM` is any
+-- `X` (lines 1038 to 1059); the byte after `XM` is any
 unfoldable pub special-types : List (Char × Lex Operator)
 special-types =
     ("E", ret function-type) ∷
@@ -200,7 +203,7 @@ special-types =
 unfoldable pub async-types : List (Char × Operator)
 async-types = ("a", leaf async) ∷ []
 
--- `Q` (lines 1086 to 1096)
+-- `Q` (lines 1087 to 1095)
 unfoldable pub archetypes : List (Char × Lex Param)
 archetypes = ("z", ret (param 0 0)) ∷ ("y", index-plus-one >>= λ i. ret (param 0 i)) ∷ ("d", depth-and-index) ∷ []
 
@@ -246,7 +249,7 @@ unfoldable pub requirement-letters : Lex Operator
 requirement-letters [] = refused 9
 requirement-letters (c ∷ t) = elim (pick c requirements) [ some m ↦ m t | none ↦ requiring on-param conforms (c ∷ t) ]
 
--- the counts after `r` (lines 1275 to 1289): at most as many more, the last one read
+-- the counts after `r` (lines 1275 to 1288): at most as many more, the last one read
 unfoldable pub counts : ℕ → ℕ → Lex ℕ
 counts zero params = do
   closed ← next-if (is "l")
@@ -287,14 +290,14 @@ function-entities =
     ("e", record-of a-context (bytes "ivar initializer for ")) ∷
     ("E", record-of a-context (bytes "ivar destroyer for ")) ∷ []
 
--- `MX` (lines 1488 to 1496)
+-- `MX` (lines 1487 to 1496)
 unfoldable pub context-descriptors : List (Char × Operator)
 context-descriptors =
     ("M", record-of a-context (bytes "module descriptor ")) ∷
     ("E", record-of a-context (bytes "extension descriptor ")) ∷
     ("X", record-of a-context (bytes "anonymous descriptor ")) ∷ []
 
--- `M` (lines 1453 to 1500)
+-- `M` (lines 1453 to 1501)
 unfoldable pub metatype-records : List (Char × Lex Operator)
 metatype-records =
     ("a", ret (record-of a-type (bytes "type metadata accessor for "))) ∷
@@ -337,7 +340,7 @@ witnesses =
     ("a", ret (record-of a-conformance (bytes "protocol witness table accessor for "))) ∷
     ("S", ret (record-of a-conformance (bytes "protocol self-conformance witness table for "))) ∷ []
 
--- `w` (lines 1565 to 1595): the second letter under the first
+-- `w` (lines 1568 to 1594): the second letter under the first
 unfoldable pub value-witnesses : List (Char × List (Char × String))
 value-witnesses =
     ("a", ("l", "allocateBuffer") ∷ []) ∷
@@ -358,11 +361,11 @@ unfoldable pub value-witness-letters : Lex Operator
 value-witness-letters = do
   a ← next
   b ← next
-  row ← or-refuse 9 (pick a value-witnesses)
-  kind ← or-refuse 9 (pick b row)
+  under ← or-refuse 9 (pick a value-witnesses)
+  kind ← or-refuse 9 (pick b under)
   ret (value-witness (bytes kind))
 
--- `TY` (lines 1663 to 1671)
+-- `TY` (lines 1663 to 1672)
 unfoldable pub suspend-resume-text : ℕ → Name
 suspend-resume-text i = bytes "(" ++ (decimal i ++ bytes ") suspend resume partial function for ")
 
@@ -432,7 +435,7 @@ operators =
 unfoldable pub operator : ℕ → Lex Operator
 operator c t = given (pick c operators) (refused 9) (λ m. m t)
 
--- to name this on an `unfolding` line is to open every definition up to here
+-- FOR PROOFS ONLY: this name on an `unfolding` line opens every definition up to here
 unfoldable pub opened : ℕ
 unfolding opened₀ choose choose-then choose-late substitutions-from substitutions-letters standard-types standard-modules standard-letter standard-letters special-types async-types archetypes on-param on-member requiring layouts requiring-layout requirements requirement-letters counts accessors function-entities context-descriptors metatype-records field-offsets witnesses value-witnesses value-witness-letters suspend-resume-text suspend-resume thunks operators operator
 opened = 0

@@ -57,16 +57,16 @@ leaf-node Op.throws = Throws
 leaf-node Op.async = Async
 
 -- WHAT SEVERAL OPERATORS TAKE
--- `match self.pop()? { Node::Identifier(name) => name, _ => return None }`
+-- the name of an identifier, as lines 917 to 920 take it
 unfoldable pub name-in : Node → Run Name
-name-in n = if K.is-identifier (kind n) then ret (name-of n) else refuse 10
+name-in n = given (name-of n) (refuse 10) ret
 
 unfoldable pub pop-name : Run Name
 pop-name = pop >>= name-in
 
 -- lines 931 to 939
 unfoldable pub context-in : Node → Run Node
-context-in n = if K.is-identifier (kind n) then ret (Module (name-of n)) else if K.is-context (kind n) then ret n else refuse 10
+context-in n = given (name-of n) (if K.is-context (kind n) then ret n else refuse 10) (λ name. ret (Module name))
 
 unfoldable pub context : Run Node
 context = pop >>= context-in
@@ -75,8 +75,7 @@ context = pop >>= context-in
 unfoldable pub protocol-in : Node → Run Node
 protocol-in n =
     if K.is-protocol (kind n) then ret n else
-    if eqb (kind n) K.protocol-list && eqb (count n) 1 then ret (member-of n) else
-    if K.is-identifier (kind n) then (context >>= λ c. ret (Nominal Protocol c (name-of n))) else refuse 10
+    given (member-of n) (given (name-of n) (refuse 10) (λ name. context >>= λ c. ret (Nominal Protocol c name))) ret
 
 unfoldable pub protocol : Run Node
 protocol = pop >>= protocol-in
@@ -85,7 +84,7 @@ protocol = pop >>= protocol-in
 unfoldable pub assoc-type-name : Run Name
 assoc-type-name = try K.is-protocol >> pop-name
 
--- lines 1502 to 1513
+-- lines 1503 to 1513
 unfoldable pub conformance : Run Node
 conformance = do
   home ← context
@@ -93,13 +92,13 @@ conformance = do
   ty ← pop-if K.is-type
   ret (Conformance ty p home)
 
--- lines 1024 to 1034
+-- lines 1025 to 1034
 unfoldable pub function-params : Run Node
 function-params = do
   empty ← took K.empty-list
   if empty then ret (Tuple nil) else pop-if K.is-type
 
--- lines 1009 to 1022
+-- lines 1009 to 1023
 unfoldable pub function-type : Run Node
 function-type = do
   wrap
@@ -120,7 +119,7 @@ under-signature (some signature) ty = wrap >> ret (GenericType signature ty)
 
 -- LABELS (lines 1298 to 1328)
 unfoldable pub label-in : Node → Run (Option Name)
-label-in n = if K.is-identifier (kind n) then ret (some (name-of n)) else if eqb (kind n) K.first-element-marker then ret none else refuse 10
+label-in n = given (name-of n) (if eqb (kind n) K.first-element-marker then ret none else refuse 10) (λ name. ret (some name))
 
 unfoldable pub labels-from : ℕ → List (Option Name) → Run (List (Option Name))
 labels-from zero ls = ret ls
@@ -134,7 +133,7 @@ unfoldable pub arity-of : Node → ℕ
 arity-of ty = if eqb (kind ty) K.function-type then count ty else 0
 
 unfoldable pub arity : Node → ℕ
-arity ty = if eqb (kind ty) K.generic-type then arity-of (inner-of ty) else arity-of ty
+arity ty = given (inner-of ty) (arity-of ty) arity-of
 
 -- the empty list is looked for first
 unfoldable pub labels : Node → Run Labels
@@ -145,8 +144,7 @@ labels ty = do
 
 -- LISTS. Each is taken from its last node on, and each node put in front
 unfoldable pub label-of : Option Node → Option Name
-label-of none = none
-label-of (some n) = some (name-of n)
+label-of label = given label none name-of
 
 -- lines 987 to 1003
 unfoldable pub elements : ℕ → Nodes → Run Nodes
@@ -166,7 +164,7 @@ members (suc f) ps = do
   p ← protocol
   if first then ret (cons none p ps) else members f (cons none p ps)
 
--- lines 1161 to 1174: types down to the empty list, past the markers between levels
+-- lines 1161 to 1175: types down to the empty list, past the markers between levels
 unfoldable pub arguments : ℕ → Nodes → Run Nodes
 arguments zero args = refuse 10
 arguments (suc f) args = do
@@ -175,7 +173,7 @@ arguments (suc f) args = do
     opened ← took K.empty-list
     if opened then ret args else (pop-if (eqb K.first-element-marker) >> arguments f args)) λ n. arguments f (cons none n args)
 
--- lines 1264 to 1274
+-- lines 1264 to 1273
 unfoldable pub requirements : ℕ → Nodes → Run Nodes
 requirements zero rs = ret rs
 requirements (suc f) rs = do
@@ -183,7 +181,7 @@ requirements (suc f) rs = do
   given r (ret rs) λ n. requirements f (cons none n rs)
 
 -- THE OPERATORS
--- lines 914 to 929
+-- lines 915 to 929
 unfoldable pub nominal : NominalKind → Run Done
 nominal k = do
   name ← pop-name
@@ -209,7 +207,7 @@ protocol-list = do
   ps ← if empty then ret nil else members f nil
   push (ProtocolList ps)
 
--- lines 1155 to 1182
+-- lines 1155 to 1183
 unfoldable pub bound-generic : Run Done
 bound-generic = do
   wrap
@@ -219,14 +217,14 @@ bound-generic = do
   remember (BoundGeneric base args)
   push (BoundGeneric base args)
 
--- `z` and `m` (lines 758 to 767), `XM` and `Xp`
+-- `z` and `m` (lines 754 to 763), `XM` and `Xp` (lines 1044 to 1056)
 unfoldable pub wrapped : (Node → Node) → Run Done
 wrapped f = do
   wrap
   ty ← pop-if K.is-type
   push (f ty)
 
--- lines 1097 to 1103
+-- lines 1096 to 1103
 unfoldable pub archetype : Param → Run Done
 archetype p = do
   name ← assoc-type-name
@@ -299,7 +297,7 @@ about Op.a-protocol = protocol
 about Op.a-conformance = conformance
 about Op.anything = pop
 
--- `Wl` and `WL` (lines 1532 to 1550)
+-- `Wl` and `WL` (lines 1531 to 1549)
 unfoldable pub lazy-witness : Name → Run Done
 lazy-witness what = do
   c ← conformance
@@ -313,14 +311,14 @@ protocol-witness = do
   c ← conformance
   push (ProtocolWitness entity c)
 
--- `Tl` (lines 1627 to 1641)
+-- `Tl` (lines 1627 to 1642)
 unfoldable pub associated-type : Run Done
 associated-type = do
   p ← protocol
   name ← pop-name
   push (Record (bytes "associated type descriptor for ") (DependentMember p name))
 
--- `Tn` (lines 1642 to 1662)
+-- `Tn` (lines 1643 to 1662)
 unfoldable pub one-or-none : Option Node → Nodes
 one-or-none none = nil
 one-or-none (some n) = cons none n nil
@@ -334,7 +332,7 @@ associated-conformance = do
   p ← pop-if K.is-type
   push (AssociatedConformance p (one-or-none qualifier) name required)
 
--- line 961 to 964
+-- lines 959 to 962
 unfoldable pub optional-of : Node → Node
 optional-of ty = BoundGeneric (standard-nominal Enum "Optional") (cons none ty nil)
 
@@ -343,7 +341,7 @@ module _ (N : ℕ) where
   unfoldable pub copied : ℕ → Node → Run Done
   copied times n = spend (B.charge N (size n * times)) >> push-copies times n
 
-  -- `Sg` (lines 956 to 967)
+  -- `Sg` (lines 956 to 965)
   unfoldable pub optional : ℕ → Run Done
   optional repeat = do
     wrap
@@ -351,8 +349,8 @@ module _ (N : ℕ) where
     remember (optional-of ty)
     copied repeat (optional-of ty)
 
-  -- `A` (lines 880 to 912)
-  unfoldable pub substitutions : List Op.Copies → Late Done → Run Done
+  -- `A` (lines 878 to 913)
+  unfoldable pub substitutions : List Op.Substitution → Late Done → Run Done
   substitutions [] letter = judge letter
   substitutions (c ∷ cs) letter = do
     n ← recall (c .index)
@@ -387,7 +385,7 @@ module _ (N : ℕ) where
   perform Op.associated-type = associated-type
   perform Op.associated-conformance = associated-conformance
 
--- to name this on an `unfolding` line is to open every definition up to here
+-- FOR PROOFS ONLY: this name on an `unfolding` line opens every definition up to here
 unfoldable pub opened : ℕ
 unfolding opened₀ opened₁ opened₂ standard-nominal any-object generic-param leaf-node name-in pop-name context-in context protocol-in protocol assoc-type-name conformance function-params function-type try-signature under-signature label-in labels-from arity-of arity labels label-of elements members arguments requirements nominal tuple protocol-list bound-generic wrapped archetype subject requirement generic-signature plain-function accessed variable initializer about lazy-witness protocol-witness associated-type one-or-none associated-conformance optional-of copied optional substitutions perform
 opened = 0

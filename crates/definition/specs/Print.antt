@@ -1,4 +1,4 @@
--- 01, "Printed text": the text of a node (lines 330 to 579).
+-- 01, "Printed text": the text of a node (lines 330 to 578).
 -- antt's functions go down a tree by its parts only, so `print`, `print_params` and the two ways to print a type behind a name are the fields
 -- of one record that is made bottom up. proofs/PrintEquations.antt has them as the source writes them.
 use mathlib.Core.Bool.{Bool, true, false, _&&_}
@@ -23,7 +23,8 @@ join sep (x ∷ y ∷ ys) = x ++ (bytes sep ++ join sep (y ∷ ys))
 unfoldable pub dotted : Name → Name → Name
 dotted a b = a ++ (bytes "." ++ b)
 
--- GENERIC PARAMETERS (lines 527 to 543): least letter first, then the depth if above 0; f bounds the letters
+-- GENERIC PARAMETERS (lines 527 to 543): least letter first, then the depth if above 0; f bounds
+-- the letters and is never reached (proofs/Bounds `letters-bound`, `param-name-any`)
 unfoldable pub param-letters : ℕ → ℕ → Name
 param-letters zero i = []
 param-letters (suc f) i = (65 + i % 26) ∷ elim (eqb (i / 26) 0) [ true ↦ [] | false ↦ param-letters f (i / 26) ]
@@ -69,7 +70,7 @@ texts [] = []
 texts (e ∷ es) = e .1 ∷ texts es
 
 -- NAMES THAT DEPEND ON A FLAG
--- lines 354 and 355
+-- lines 354 and 355, 425 and 426, 459 and 460
 unfoldable pub effects : Bool → Bool → Name
 effects throws is-async = (if is-async then bytes " async" else []) ++ (if throws then bytes " throws" else [])
 
@@ -77,7 +78,7 @@ effects throws is-async = (if is-async then bytes " async" else []) ++ (if throw
 unfoldable pub initializer-name : Bool → Node → Name
 initializer-name allocating context = if allocating && eqb (kind context) K.class then bytes "__allocating_init" else bytes "init"
 
--- lines 466 to 478
+-- lines 466 to 477
 unfoldable pub deinitializer-name : Bool → Name
 deinitializer-name deallocating = if deallocating then bytes "__deallocating_deinit" else bytes "deinit"
 
@@ -86,7 +87,8 @@ unfoldable pub composition : List Name → Name
 composition [] = bytes "Any"
 composition (p ∷ ps) = join " & " (p ∷ ps)
 
--- the path of an associated type: the protocol that says where it is from, if there is one, and its name (lines 1653 to 1656)
+-- the path of an associated type: the protocol that says where it is from, if there is one, and its
+-- name (lines 1654 to 1657)
 unfoldable pub qualified : List Name → Name → Name
 qualified [] n = n
 qualified (q ∷ qs) n = dotted q n
@@ -97,7 +99,8 @@ pub record Printed : Type 0 where
   pub text : Name
   -- `print_params`, with the labels given
   pub params : Labels → Name
-  -- what follows the name of a function or initializer whose type it is, once a signature was split off (lines 415 to 430)
+  -- what follows the name of a function or initializer whose type it is, once a signature was split
+  -- off (lines 415 to 430 and 449 to 464)
   pub behind : Labels → Name
   -- the same, with a signature split off first (`split_generic`, lines 545 to 552)
   pub signed : Labels → Name
@@ -199,16 +202,16 @@ unfoldable mutual
   printing (Nominal k c n) = print-nominal (printing c) n
   printing (GenericParam d i) = printed (generic-param-name d i)
   printing (DependentMember b n) = printed (dotted (printing b .text) n)
-  printing (Tuple es) = print-tuple (elements es)
+  printing (Tuple es) = print-tuple (printed-elements es)
   printing (FunctionType p r t a) = print-function-type (printing p) (printing r) t a
   printing (GenericType s i) = print-generic-type (printing s) (printing i)
-  printing (GenericSignature p rs) = printed (signature-text p (texts (elements rs)))
+  printing (GenericSignature p rs) = printed (signature-text p (texts (printed-elements rs)))
   printing (ConformanceRequirement p q) = printed (printing p .text ++ (bytes ": " ++ printing q .text))
   printing (SameTypeRequirement p o) = printed (printing p .text ++ (bytes " == " ++ printing o .text))
-  printing (ProtocolList ps) = printed (composition (texts (elements ps)))
+  printing (ProtocolList ps) = printed (composition (texts (printed-elements ps)))
   printing (Metatype n) = printed (printing n .text ++ bytes ".Type")
   printing (InOut n) = printed (bytes "inout " ++ printing n .text)
-  printing (BoundGeneric b args) = printed (bound (printing b) (texts (elements args)))
+  printing (BoundGeneric b args) = printed (bound (printing b) (texts (printed-elements args)))
   printing (Function c n l t) = printed (dotted (printing c .text) n ++ printing t .signed l)
   printing (Variable c n t) = print-variable (printing c) n (printing t)
   printing (Accessor k v) = printed (printing v .accessed k)
@@ -227,21 +230,21 @@ unfoldable mutual
   printing Async = printed []
   printing (LazyWitness w t c) = printed (w ++ (printing t .text ++ (bytes " and conformance " ++ printing c .text)))
   printing (AssociatedConformance p q n r) =
-      printed (bytes "associated conformance descriptor for " ++ (dotted (printing p .text) (qualified (texts (elements q)) n) ++ (bytes ": " ++ printing r .text)))
+      printed (bytes "associated conformance descriptor for " ++ (dotted (printing p .text) (qualified (texts (printed-elements q)) n) ++ (bytes ": " ++ printing r .text)))
 
-  pub elements : Nodes → List Element
-  elements nil = []
-  elements (cons l n ns) = (l, printing n .text) ∷ elements ns
+  pub printed-elements : Nodes → List Element
+  printed-elements nil = []
+  printed-elements (cons l n ns) = (l, printing n .text) ∷ printed-elements ns
 
--- lines 330 to 506
+-- lines 330 to 507
 unfoldable pub print : Node → Name
 print n = printing n .text
 
--- lines 554 to 579
+-- lines 554 to 578
 unfoldable pub print-params : Node → Labels → Name
 print-params n ls = printing n .params ls
 
--- to name this on an `unfolding` line is to open every definition up to here
+-- FOR PROOFS ONLY: this name on an `unfolding` line opens every definition up to here
 unfoldable pub opened : ℕ
-unfolding opened₀ join dotted param-letters generic-param-name param-names signature-text labelled label-at params-from in-parens texts effects initializer-name deinitializer-name composition qualified printed print-tuple print-function-type print-generic-type print-nominal print-variable angled bound printing elements print print-params
+unfolding opened₀ join dotted param-letters generic-param-name param-names signature-text labelled label-at params-from in-parens texts effects initializer-name deinitializer-name composition qualified printed print-tuple print-function-type print-generic-type print-nominal print-variable angled bound printing printed-elements print print-params
 opened = 0

@@ -13,7 +13,7 @@ use Rattle.definition.specs.Print.{print}
 use Rattle.definition.specs.Operators.{operator}
 use Rattle.definition.specs.Machine.{fresh, know, remember, push}
 use Rattle.definition.specs.Perform.{Demangler, Run, perform}
-use Rattle.definition.specs.Calls.{Answer, accepted, within, checked, reading-needs, symbol, whole-text, then-run, turn, turns, ended, all-turns, symbol-kind, finished, entry-numbers}
+use Rattle.definition.specs.Calls.{Answer, accepted, within, admit, reading-needs, symbol, whole-text, then-run, turn, turns, ended, all-turns, symbol-kind, finished, entry-numbers}
 
 module _ (N : ℕ) where
   -- the end of `identifier` (lines 840 to 842)
@@ -41,16 +41,16 @@ module _ (N : ℕ) where
 
 -- a reading with an output slice that is long enough
 unfoldable pub read : Text → (N workspace : ℕ) → Answer
-read t N workspace = let r : Answer = symbol t (whole N symbol-kind) in checked reading-needs N workspace t r
+read t N workspace = let r : Answer = symbol t (whole N symbol-kind) in admit reading-needs N workspace t r
 
 unfoldable pub read-type : Text → (N workspace : ℕ) → Answer
-read-type t N workspace = let r : Answer = whole N K.is-type (whole-text t) in checked reading-needs N workspace t r
+read-type t N workspace = let r : Answer = whole N K.is-type (whole-text t) in admit reading-needs N workspace t r
 
-unfoldable pub read-stopped : (k : ℕ) → Text → (N workspace : ℕ) → Answer
-read-stopped k t N workspace = let r : Answer = symbol t (stopped-after N k) in checked reading-needs N workspace t r
+unfoldable pub read-stopped : Text → (N k workspace : ℕ) → Answer
+read-stopped t N k workspace = let r : Answer = symbol t (stopped-after N k) in admit reading-needs N workspace t r
 
-unfoldable pub read-type-stopped : (k : ℕ) → Text → (N workspace : ℕ) → Answer
-read-type-stopped k t N workspace = let r : Answer = stopped-after N k (whole-text t) in checked reading-needs N workspace t r
+unfoldable pub read-type-stopped : Text → (N k workspace : ℕ) → Answer
+read-type-stopped t N k workspace = let r : Answer = stopped-after N k (whole-text t) in admit reading-needs N workspace t r
 
 -- THE CALLS: a text, the ceiling, how many turns where stopped, how many numbers of workspace, how long the output slice
 -- lines 27 to 35
@@ -62,12 +62,12 @@ unfoldable pub demangle-type : Text → (N workspace out : ℕ) → Answer
 demangle-type t N workspace out = within out (read-type t N workspace)
 
 unfoldable pub demangle-stopped : Text → (N k workspace out : ℕ) → Answer
-demangle-stopped t N k workspace out = within out (read-stopped k t N workspace)
+demangle-stopped t N k workspace out = within out (read-stopped t N k workspace)
 
 unfoldable pub demangle-type-stopped : Text → (N k workspace out : ℕ) → Answer
-demangle-type-stopped t N k workspace out = within out (read-type-stopped k t N workspace)
+demangle-type-stopped t N k workspace out = within out (read-type-stopped t N k workspace)
 
--- to name this on an `unfolding` line is to open every definition up to here
+-- FOR PROOFS ONLY: this name on an `unfolding` line opens every definition up to here
 unfoldable pub opened : ℕ
 unfolding opened₀ opened₁ name one whole stopped-after read read-type read-stopped read-type-stopped demangle demangle-type demangle-stopped demangle-type-stopped
 opened = 0

@@ -1,5 +1,6 @@
--- 01, "Shape entries": the check's rules, a table of what each operator takes and leaves, and the one interpreter that runs its rows.
--- Nothing of the reading is used here.
+-- 01, "Shape entries": the check's rules, a table of what each operator takes and leaves, and the
+-- one interpreter that runs its rows. Nothing of the reading's trees is used here; of specs/Node
+-- only the numbers of the five nominal kinds (`nominal-kind`).
 use mathlib.Core.Bool.{Bool, true, false, _&&_}
 use mathlib.Core.List.{List, [], _∷_, _++_}
 use mathlib.Core.Option.{Option, some, none}
@@ -69,7 +70,7 @@ remembered k n = record { kind = k; own = n; counted = false; remembered = true;
 -- a row of the table
 pub data Row : Type 0 where
   -- copies of remembered entries, then the letter that ended them
-  recalls : List Op.Copies → Late Done → Row
+  recalls : List Op.Substitution → Late Done → Row
   rule : List Take → Leaves → Row
 
 abbrev pub a-type : Take
@@ -258,6 +259,7 @@ side = do
   empty ← took K.empty-list
   if empty then ret (entry K.tuple 1 0) else pop-if K.is-type
 
+-- lists: the bound f is `rounds`, and never reached (proofs/Bounds)
 unfoldable pub elements-from : ℕ → Taken → Check Taken
 elements-from zero a = refuse 10
 elements-from (suc f) a = do
@@ -374,7 +376,7 @@ module _ (N : ℕ) where
   unfoldable pub leave : Leaves → Taken → Check Done
   leave l a = (if l .remembered then remember (left l a) else ret tt) >> given (l .copies) (push (left l a)) (λ times. copied times (left l a))
 
-  unfoldable pub recalled : List Op.Copies → Late Done → Check Done
+  unfoldable pub recalled : List Op.Substitution → Late Done → Check Done
   recalled [] l = judge l
   recalled (c ∷ cs) l = do
     e ← recall (c .index)
@@ -385,7 +387,7 @@ module _ (N : ℕ) where
   run-row (recalls cs l) = recalled cs l
   run-row (rule ts l) = taking ts (taken 0 0 false) (leave l)
 
--- to name this on an `unfolding` line is to open every definition up to here
+-- FOR PROOFS ONLY: this name on an `unfolding` line opens every definition up to here
 unfoldable pub opened : ℕ
 unfolding opened₀ opened₁ leaf-kind leaf-size subject-takes subject-own letter constraint-takes constraint-leaves variable-leaves about-row row add-params add-labelled add-signature name-in pop-name context-in context protocol-in protocol side elements-from members-from arguments-from requirements-from label-in labels-from taking copied leave recalled run-row
 opened = 0

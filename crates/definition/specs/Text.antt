@@ -7,7 +7,7 @@ use Prim.Native.String.{String}
 use lib.Dec.{eqb, ltb, leb}
 use lib.ListN.{length, take, drop}
 use Rattle.definition.specs.Base.{opened as opened₀}
-use Rattle.definition.specs.Base.{if_then_else_, bytes, same, is, digit, Out, ok, refused, Step, ret, refuse, unless, and-then, _>>=_, _>>_}
+use Rattle.definition.specs.Base.{if_then_else_, bytes, same, is, between, digit, Out, ok, refused, Step, ret, refuse, unless, and-then, _>>=_, _>>_}
 
 -- The text from the cursor on. The Rust's cursor is `text` and `pos`
 abbrev pub Text : Type 0
@@ -59,7 +59,7 @@ index = do
       checked (n + 1)
   ]
 
--- `index()?.checked_add(1)?`
+-- an index and 1 more, as lines 1073, 1079, 1089, 1091 and 1285 have it
 unfoldable pub index-plus-one : Lex ℕ
 index-plus-one = do
   i ← index
@@ -93,29 +93,26 @@ generic-param-index = do
 
 -- UTF-8 (RFC 3629, section 4): a row for each line of UTF8-2, UTF8-3 and UTF8-4
 -- the first byte lies between first and last, the second between low and high, and then come as many of 80 to BF
-pub record Row : Type 0 where
+pub record Utf8Row : Type 0 where
   pub first : ℕ
   pub last : ℕ
   pub low : ℕ
   pub high : ℕ
   pub more : ℕ
 
-abbrev pub row : ℕ → ℕ → ℕ → ℕ → ℕ → Row
-row a b c d n = record { first = a; last = b; low = c; high = d; more = n }
+abbrev pub utf8-row : ℕ → ℕ → ℕ → ℕ → ℕ → Utf8Row
+utf8-row a b c d n = record { first = a; last = b; low = c; high = d; more = n }
 
-unfoldable pub rows : List Row
-rows =
-    row 0xC2 0xDF 0x80 0xBF 0 ∷
-    row 0xE0 0xE0 0xA0 0xBF 1 ∷
-    row 0xE1 0xEC 0x80 0xBF 1 ∷
-    row 0xED 0xED 0x80 0x9F 1 ∷
-    row 0xEE 0xEF 0x80 0xBF 1 ∷
-    row 0xF0 0xF0 0x90 0xBF 2 ∷
-    row 0xF1 0xF3 0x80 0xBF 2 ∷
-    row 0xF4 0xF4 0x80 0x8F 2 ∷ []
-
-abbrev pub between : ℕ → ℕ → ℕ → Bool
-between lo hi b = leb lo b && leb b hi
+unfoldable pub utf8-rows : List Utf8Row
+utf8-rows =
+    utf8-row 0xC2 0xDF 0x80 0xBF 0 ∷
+    utf8-row 0xE0 0xE0 0xA0 0xBF 1 ∷
+    utf8-row 0xE1 0xEC 0x80 0xBF 1 ∷
+    utf8-row 0xED 0xED 0x80 0x9F 1 ∷
+    utf8-row 0xEE 0xEF 0x80 0xBF 1 ∷
+    utf8-row 0xF0 0xF0 0x90 0xBF 2 ∷
+    utf8-row 0xF1 0xF3 0x80 0xBF 2 ∷
+    utf8-row 0xF4 0xF4 0x80 0x8F 2 ∷ []
 
 -- n bytes of 80 to BF, and what follows them
 unfoldable pub tails : ℕ → Text → Option Text
@@ -124,19 +121,21 @@ tails (suc n) [] = none
 tails (suc n) (b ∷ t) = elim (between 0x80 0xBF b) [ true ↦ tails n t | false ↦ none ]
 
 -- what follows the first byte by a row
-unfoldable pub second : Row → Text → Option Text
+unfoldable pub second : Utf8Row → Text → Option Text
 second r [] = none
 second r (b ∷ t) = elim (between (r .low) (r .high) b) [ true ↦ tails (r .more) t | false ↦ none ]
 
-unfoldable pub by-row : ℕ → List Row → Text → Option Text
+unfoldable pub by-row : ℕ → List Utf8Row → Text → Option Text
 by-row b [] t = none
 by-row b (r ∷ rs) t = elim (between (r .first) (r .last) b) [ true ↦ second r t | false ↦ by-row b rs t ]
 
--- the text behind a character that begins with b; none where there is no such character
+-- the text after a character that begins with b; none where there is no such character
 unfoldable pub character : ℕ → Text → Option Text
-character b t = elim (ltb b 0x80) [ true ↦ some t | false ↦ by-row b rows t ]
+character b t = elim (ltb b 0x80) [ true ↦ some t | false ↦ by-row b utf8-rows t ]
 
--- the place of the first ill-formed sequence in a text of n bytes, of which t is left; f bounds the characters
+-- the place of the first ill-formed sequence in a text of n bytes, of which t is left; f bounds the
+-- characters and is reached only where no text is left: each takes a byte (proofs/Bounds
+-- `characters-bound`, `ill-formed-any`)
 unfoldable pub ill-formed-from : ℕ → ℕ → Text → Option ℕ
 ill-formed-from zero n t = none
 ill-formed-from (suc f) n [] = none
@@ -181,7 +180,7 @@ unfoldable pub suffix-text : Text → Text
 suffix-text [] = []
 suffix-text (b ∷ t) = bytes " with unmangled suffix \"" ++ ((b ∷ t) ++ bytes "\"")
 
--- to name this on an `unfolding` line is to open every definition up to here
+-- FOR PROOFS ONLY: this name on an `unfolding` line opens every definition up to here
 unfoldable pub opened : ℕ
-unfolding opened₀ peek next next-if digits natural index index-plus-one depth-and-index generic-param-index rows tails second by-row character ill-formed-from ill-formed well-formed prefixes prefix-of before-dot split-at split suffix-text
+unfolding opened₀ peek next next-if digits natural index index-plus-one depth-and-index generic-param-index utf8-rows tails second by-row character ill-formed-from ill-formed well-formed prefixes prefix-of before-dot split-at split suffix-text
 opened = 0

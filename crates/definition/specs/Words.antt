@@ -14,15 +14,17 @@ use Rattle.definition.specs.Text.{Text, Lex, next-if, natural, well-form
 abbrev pub most-words : ℕ
 most-words = 26
 
--- A word that has ended is kept if it has 2 bytes or more and fewer than 26 are known (lines 859 to 861)
+-- A word that has ended is kept if it has 2 bytes or more and fewer than 26 are known (lines 858 to
+-- 860)
 unfoldable pub keep : Name → List Name → List Name
 keep word words = if leb 2 (length word) && ltb (length words) most-words then words ++ (word ∷ []) else words
 
--- a word starts at a byte that is neither digit nor `_` (lines 865 to 871)
+-- a word starts at a byte that is neither digit nor `_` (lines 864 to 870)
 unfoldable pub starts : ℕ → Bool
 starts c = not (digit c) && not (is "_" c)
 
--- The loop of `note_words` (lines 849 to 872): the word that is open ([]: none), the byte before, the text that is left, the words kept
+-- The loop of `note_words` (lines 849 to 871): the word that is open ([]: none), the byte before,
+-- the text that is left, the words kept
 unfoldable pub note-words-from : Name → ℕ → Text → List Name → List Name
 note-words-from [] previous [] words = words
 note-words-from (x ∷ word) previous [] words = keep (x ∷ word) words
@@ -63,7 +65,8 @@ word-letters words name (c ∷ t) = elim (lower c) [
 unfoldable pub take-bytes : ℕ → Lex Name
 take-bytes n t = elim (leb n (length t)) [ true ↦ ok (take n t) (drop n t) | false ↦ refused 9 ]
 
--- A length and that many bytes, whole UTF-8 (lines 817 to 826); behind the length of a punycode name one `_` is passed over
+-- A length and that many bytes, whole UTF-8 (lines 817 to 826); after the length of a punycode name
+-- one `_` is passed over
 unfoldable pub literal : Bool → Lex Name
 literal punycoded = do
   count ← natural
@@ -81,7 +84,8 @@ pub record Identified : Type 0 where
 abbrev pub identified : Name → List Name → Identified
 identified n ws = record { name = n; words = ws }
 
--- The loop of `identifier` (lines 803 to 836); f bounds its rounds
+-- The loop of `identifier` (lines 803 to 836); f bounds its rounds and is never reached: each
+-- round that goes on takes a literal (proofs/Bounds `identifier-bound`, `identifier-any`)
 unfoldable pub identifier-from : ℕ → (has-word-substitutions punycoded : Bool) → List Name → Name → Lex Identified
 identifier-from zero subs punycoded words name = refuse 9
 identifier-from (suc f) subs punycoded words name = do
@@ -105,7 +109,7 @@ identifier words t = (do
   unless 9 (not (is-empty (r .name)))
   ret r) t
 
--- to name this on an `unfolding` line is to open every definition up to here
+-- FOR PROOFS ONLY: this name on an `unfolding` line opens every definition up to here
 unfoldable pub opened : ℕ
 unfolding opened₀ keep starts note-words-from note-words word-letters take-bytes literal identifier-from is-empty identifier
 opened = 0

@@ -7,7 +7,7 @@ use lib.Dec.{T, T-not}
 use lib.ListN.{length, getD}
 use Rattle.definition.specs.Text.{Text, Symbol}
 use Rattle.definition.specs.Calls as Calls
-use Rattle.definition.specs.Calls.{refusal, within, checked}
+use Rattle.definition.specs.Calls.{refusal, within, admit}
 use Rattle.definition.specs.Enums.{values}
 use Rattle.definition.specs.declared.Answer.{Answer}
 use Rattle.definition.specs.declared.Answer.the-variants as Answer
@@ -35,7 +35,7 @@ scratch-run need N n w w′ m e h l p = record {
 -- THE ANSWER
 module _ (what : Final) (need N w : ℕ) (t : Text) where
   abbrev before : (Symbol → Calls.Answer) → Calls.Answer
-  before read = checked need N w t (framed what t read)
+  before read = admit need N w t (framed what t read)
 
   -- after a match
   pub was-body : (a : Admitted) {start end : ℕ} → a ≡ Admitted.Body start end → Admits what need N w t a → Body before t start end × Bounds need N w t

@@ -13,7 +13,7 @@ use Rattle.definition.specs.Base.{given, if_then_else_}
 use Rattle.definition.specs.Text.{Text, Symbol, ill-formed, split}
 use Rattle.definition.specs.Kind as K
 use Rattle.definition.specs.Calls as Calls
-use Rattle.definition.specs.Calls.{refusal, within, good-ceiling, checked, symbol, whole-text, check-needs, symbol-kind}
+use Rattle.definition.specs.Calls.{refusal, within, good-ceiling, admit, symbol, whole-text, check-needs, symbol-kind}
 use Rattle.definition.specs.Reading as Reading
 use Rattle.definition.specs.Check as Check
 use Rattle.definition.specs.Enums.{values}
@@ -30,9 +30,9 @@ symbol-plain t read h = go (split t)
     go none = refusal-plain 5 0 (omega arith)
     go (some s) = h s
 
-checked-plain : (need N workspace : ℕ) (t : Text) (rest : Calls.Answer) → Plain rest → Plain (checked need N workspace t rest)
-unfolding checked
-checked-plain need N workspace t rest h = go (good-ceiling N) (leb (need * N) workspace) (leb (length t) 65535) (ill-formed t)
+admit-plain : (need N workspace : ℕ) (t : Text) (rest : Calls.Answer) → Plain rest → Plain (admit need N workspace t rest)
+unfolding admit
+admit-plain need N workspace t rest h = go (good-ceiling N) (leb (need * N) workspace) (leb (length t) 65535) (ill-formed t)
   where
     go : (g b l : Bool) (o : Option ℕ) →
         Plain (elim g [ false ↦ refusal 1 0 | true ↦ elim b [ false ↦ refusal 2 0 | true ↦ elim l [ false ↦ refusal 3 0 | true ↦ elim o [ some p ↦ refusal 4 p | none ↦ rest ] ] ] ])
@@ -118,32 +118,40 @@ module _ (a : Calls.Answer) (h : Plain a) {out out′ : List ℕ} {r : Answer} w
 module _ (t : Text) (N w : ℕ) where
   pub symbol-read-plain : Plain (Reading.read t N w)
   unfolding Reading.read
-  symbol-read-plain = checked-plain 64 N w t _ (symbol-plain t _ (λ s. read-ran N symbol-kind s .plain))
+  symbol-read-plain = admit-plain 64 N w t _ (symbol-plain t _ (λ s. read-ran N symbol-kind s .plain))
 
   pub type-read-plain : Plain (Reading.read-type t N w)
   unfolding Reading.read-type
-  type-read-plain = checked-plain 64 N w t _ (read-ran N K.is-type (whole-text t) .plain)
+  type-read-plain = admit-plain 64 N w t _ (read-ran N K.is-type (whole-text t) .plain)
 
-  pub symbol-read-k-plain : (k : ℕ) → Plain (Reading.read-stopped k t N w)
+  pub symbol-shape-plain : Plain (Check.shape t N w)
+  unfolding Check.shape
+  symbol-shape-plain = admit-plain check-needs N w t _ (symbol-plain t _ (λ s. check-ran N symbol-kind s .plain))
+
+  pub type-shape-plain : Plain (Check.shape-type t N w)
+  unfolding Check.shape-type
+  type-shape-plain = admit-plain check-needs N w t _ (check-ran N K.is-type (whole-text t) .plain)
+
+  pub symbol-read-k-plain : (k : ℕ) → Plain (Reading.read-stopped t N k w)
   unfolding Reading.read-stopped
-  symbol-read-k-plain k = checked-plain 64 N w t _ (symbol-plain t _ (λ s. read-k-ran N k s .plain))
+  symbol-read-k-plain k = admit-plain 64 N w t _ (symbol-plain t _ (λ s. read-k-ran N k s .plain))
 
-  pub type-read-k-plain : (k : ℕ) → Plain (Reading.read-type-stopped k t N w)
+  pub type-read-k-plain : (k : ℕ) → Plain (Reading.read-type-stopped t N k w)
   unfolding Reading.read-type-stopped
-  type-read-k-plain k = checked-plain 64 N w t _ (read-k-ran N k (whole-text t) .plain)
+  type-read-k-plain k = admit-plain 64 N w t _ (read-k-ran N k (whole-text t) .plain)
 
   -- the stopped checks before 12
   abbrev pub symbol-check : ℕ → Calls.Answer
-  symbol-check k = checked check-needs N w t (symbol t (Check.stopped-after N k))
+  symbol-check k = admit check-needs N w t (symbol t (Check.stopped-after N k))
 
   abbrev pub type-check : ℕ → Calls.Answer
-  type-check k = checked check-needs N w t (Check.stopped-after N k (whole-text t))
+  type-check k = admit check-needs N w t (Check.stopped-after N k (whole-text t))
 
   pub symbol-check-k-plain : (k : ℕ) → Plain (symbol-check k)
-  symbol-check-k-plain k = checked-plain 8 N w t _ (symbol-plain t _ (λ s. check-k-ran N k s .plain))
+  symbol-check-k-plain k = admit-plain 8 N w t _ (symbol-plain t _ (λ s. check-k-ran N k s .plain))
 
   pub type-check-k-plain : (k : ℕ) → Plain (type-check k)
-  type-check-k-plain k = checked-plain 8 N w t _ (check-k-ran N k (whole-text t) .plain)
+  type-check-k-plain k = admit-plain 8 N w t _ (check-k-ran N k (whole-text t) .plain)
 
 module _ (t : Text) (N w : ℕ) {out out′ : List ℕ} {r : Answer} where
   -- a reading: its text is the definition's
@@ -156,11 +164,11 @@ module _ (t : Text) (N w : ℕ) {out out′ : List ℕ} {r : Answer} where
   demangle-type-promises = promised _ (type-read-plain t N w)
 
   -- a stopped reading: what it writes is the entries of the definition's trees after k operators
-  pub demangle-stopped-promises : (k : ℕ) → Answers (Reading.demangle-stopped t N k w (length out)) out out′ r → Promised (Reading.read-stopped k t N w .written) out out′ r
+  pub demangle-stopped-promises : (k : ℕ) → Answers (Reading.demangle-stopped t N k w (length out)) out out′ r → Promised (Reading.read-stopped t N k w .written) out out′ r
   unfolding Reading.demangle-stopped
   demangle-stopped-promises k = promised _ (symbol-read-k-plain t N w k)
 
-  pub demangle-type-stopped-promises : (k : ℕ) → Answers (Reading.demangle-type-stopped t N k w (length out)) out out′ r → Promised (Reading.read-type-stopped k t N w .written) out out′ r
+  pub demangle-type-stopped-promises : (k : ℕ) → Answers (Reading.demangle-type-stopped t N k w (length out)) out out′ r → Promised (Reading.read-type-stopped t N k w .written) out out′ r
   unfolding Reading.demangle-type-stopped
   demangle-type-stopped-promises k = promised _ (type-read-k-plain t N w k)
 
@@ -176,13 +184,7 @@ module _ (t : Text) (N w : ℕ) {out out′ : List ℕ} {r : Answer} where
 -- a whole check has no output slice: its number is 0 to 11
 module _ (t : Text) (N w : ℕ) (r : Answer) where
   pub shape-number : values r ≡ Check.shape t N w .values → values r .number ≤ 11
-  unfolding Check.shape
-  shape-number e =
-      let p = checked-plain 8 N w t _ (symbol-plain t _ (λ s. check-ran N symbol-kind s .plain)) .below in
-      subst (λ (v : Calls.Values). v .number ≤ 11) (sym e) p
+  shape-number e = subst (λ (v : Calls.Values). v .number ≤ 11) (sym e) (symbol-shape-plain t N w .below)
 
   pub shape-type-number : values r ≡ Check.shape-type t N w .values → values r .number ≤ 11
-  unfolding Check.shape-type
-  shape-type-number e =
-      let p = checked-plain 8 N w t _ (check-ran N K.is-type (whole-text t) .plain) .below in
-      subst (λ (v : Calls.Values). v .number ≤ 11) (sym e) p
+  shape-type-number e = subst (λ (v : Calls.Values). v .number ≤ 11) (sym e) (type-shape-plain t N w .below)

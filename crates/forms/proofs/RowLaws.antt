@@ -13,7 +13,7 @@ use Rattle.definition.specs.Kind as K
 use Rattle.definition.specs.Node as D
 use Rattle.definition.specs.Node.{Class, Struct, Enum, Protocol, TypeAlias, Node, Nodes, nil, cons, Identifier, Module, Nominal, GenericParam, DependentMember, Tuple, FunctionType, GenericType, GenericSignature, ConformanceRequirement, SameTypeRequirement, ProtocolList, Metatype, InOut, BoundGeneric, Function, Variable, Accessor, Initializer, Deinitializer, VariableInitializer, Static, Record, Conformance, ProtocolWitness, ValueWitness, EmptyList, FirstElementMarker, VariadicMarker, Throws, Async, LazyWitness, AssociatedConformance, nominal-kind, kind, many, count, view}
 use Rattle.definition.specs.Operators.{suspend-resume-text}
-use Rattle.definition.specs.Print.{join, dotted, generic-param-name, param-names, signature-text, params-from, in-parens, texts, effects, initializer-name, deinitializer-name, composition, qualified, printed, print-tuple, print-function-type, print-generic-type, print-nominal, print-variable, printing, elements, print}
+use Rattle.definition.specs.Print.{join, dotted, generic-param-name, param-names, signature-text, params-from, in-parens, texts, effects, initializer-name, deinitializer-name, composition, qualified, printed, print-tuple, print-function-type, print-generic-type, print-nominal, print-variable, printing, printed-elements, print}
 use Rattle.definition.proofs.PrintEquations.{print-optional, print-array, print-dictionary, print-bound-generic, print-accessor, print-accessor-other}
 use Rattle.records.specs.Lies.{at, Child, flag, LabelList, WordsOf, fixed, numbered, Cells, Lies}
 use Rattle.records.specs.Holds.{Names, Named}
@@ -142,35 +142,35 @@ flag-is true = refl
 
 -- The text of a list of nodes
 module _ {nm : Names} {ws : List ℕ} {p : ℕ} where
-  L-tuple : (es : Nodes) → Cells (Named nm) es 3 (at ws p) ws p → at ws p 2 ≡ many es → Plain nm ws p 32 (join ", " (params-from 0 none (elements es)))
+  L-tuple : (es : Nodes) → Cells (Named nm) es 3 (at ws p) ws p → at ws p 2 ≡ many es → Plain nm ws p 32 (join ", " (params-from 0 none (printed-elements es)))
   unfolding list-field list-count list-sep list-shown left X.texts
-  L-tuple es c e = plain-list 32 (omega arith) (omega arith) (record { nodes = es; cells = c; count = omega (arith, e); labels = []; are = none-in p; is = ap (join ", ") (shown-labels none (elements es)) })
+  L-tuple es c e = plain-list 32 (omega arith) (omega arith) (record { nodes = es; cells = c; count = omega (arith, e); labels = []; are = none-in p; is = ap (join ", ") (shown-labels none (printed-elements es)) })
 
-  L-members : (es : Nodes) → Cells (Named nm) es 3 (at ws p) ws p → at ws p 2 ≡ many es → Plain nm ws p 33 (join " & " (texts (elements es)))
+  L-members : (es : Nodes) → Cells (Named nm) es 3 (at ws p) ws p → at ws p 2 ≡ many es → Plain nm ws p 33 (join " & " (texts (printed-elements es)))
   unfolding list-field list-count list-sep list-shown left X.texts
-  L-members es c e = plain-list 33 (omega arith) (omega arith) (record { nodes = es; cells = c; count = omega (arith, e); labels = []; are = none-in p; is = ap (join " & ") (no-shown-labels (elements es)) })
+  L-members es c e = plain-list 33 (omega arith) (omega arith) (record { nodes = es; cells = c; count = omega (arith, e); labels = []; are = none-in p; is = ap (join " & ") (no-shown-labels (printed-elements es)) })
 
-  L-requirements : (es : Nodes) → Cells (Named nm) es 6 (at ws p) ws p → at ws p 5 ≡ many es → Plain nm ws p 34 (join ", " (texts (elements es)))
+  L-requirements : (es : Nodes) → Cells (Named nm) es 6 (at ws p) ws p → at ws p 5 ≡ many es → Plain nm ws p 34 (join ", " (texts (printed-elements es)))
   unfolding list-field list-count list-sep list-shown left X.texts
-  L-requirements es c e = plain-list 34 (omega arith) (omega arith) (record { nodes = es; cells = c; count = omega (arith, e); labels = []; are = none-in p; is = ap (join ", ") (no-shown-labels (elements es)) })
+  L-requirements es c e = plain-list 34 (omega arith) (omega arith) (record { nodes = es; cells = c; count = omega (arith, e); labels = []; are = none-in p; is = ap (join ", ") (no-shown-labels (printed-elements es)) })
 
-  L-arguments : (es : Nodes) → Cells (Named nm) es 5 (at ws p) ws p → at ws p 4 ≡ many es → Plain nm ws p 36 (join ", " (texts (elements es)))
+  L-arguments : (es : Nodes) → Cells (Named nm) es 5 (at ws p) ws p → at ws p 4 ≡ many es → Plain nm ws p 36 (join ", " (texts (printed-elements es)))
   unfolding list-field list-count list-sep list-shown left X.texts
-  L-arguments es c e = plain-list 36 (omega arith) (omega arith) (record { nodes = es; cells = c; count = omega (arith, e); labels = []; are = none-in p; is = ap (join ", ") (no-shown-labels (elements es)) })
+  L-arguments es c e = plain-list 36 (omega arith) (omega arith) (record { nodes = es; cells = c; count = omega (arith, e); labels = []; are = none-in p; is = ap (join ", ") (no-shown-labels (printed-elements es)) })
 
-  L-key-value : (es : Nodes) → Cells (Named nm) es 5 (at ws p) ws p → at ws p 4 ≡ many es → Plain nm ws p 37 (join " : " (texts (elements es)))
+  L-key-value : (es : Nodes) → Cells (Named nm) es 5 (at ws p) ws p → at ws p 4 ≡ many es → Plain nm ws p 37 (join " : " (texts (printed-elements es)))
   unfolding list-field list-count list-sep list-shown left X.texts
-  L-key-value es c e = plain-list 37 (omega arith) (omega arith) (record { nodes = es; cells = c; count = omega (arith, e); labels = []; are = none-in p; is = ap (join " : ") (no-shown-labels (elements es)) })
+  L-key-value es c e = plain-list 37 (omega arith) (omega arith) (record { nodes = es; cells = c; count = omega (arith, e); labels = []; are = none-in p; is = ap (join " : ") (no-shown-labels (printed-elements es)) })
 
   L-qualifier : (l : Option Name) (x : Node) (qs : Nodes) → Cells (Named nm) (cons l x qs) 6 (at ws p) ws p → Plain nm ws p 35 (print x)
-  unfolding list-field list-count list-sep list-shown left X.texts join texts elements print many
+  unfolding list-field list-count list-sep list-shown left X.texts join texts printed-elements print many
   L-qualifier l x qs c = plain-list 35 (omega arith) (omega arith) (record {
     nodes = cons l x nil;
     cells = record { place = c .place; is = c .is; below = c .below; holds = (c .holds .0, c .holds .1, tt) };
     count = omega arith;
     labels = [];
     are = none-in p;
-    is = ap (join ", ") (no-shown-labels (elements (cons l x nil)));
+    is = ap (join ", ") (no-shown-labels (printed-elements (cons l x nil)));
   })
 
   labels-in : (ls : D.Labels) → LabelList (Named nm) ls 6 (at ws p) ws p → LabelsIn nm ws (listed ls) (labels-at ws p)
@@ -219,7 +219,7 @@ module _ {nm : Names} {ws : List ℕ} {p r : ℕ} (F : FormIs nm ws p r) where
   form-at k e = F .is ∙ ap (λ (j : ℕ). form-of j (at ws p) (at ws (at ws p 4) 0) (F .sugar)) e
 
   pub pieces-of : (x : Node) → Lies (Named nm) x ws p → Pieces nm ws p (getD rows r 0) (print x)
-  unfolding params-from join rows form-of kind nominal-kind text-of X.texts bytes print printing printed dotted print-nominal print-tuple in-parens print-function-type print-generic-type print-variable many leaf-text signature-text composition elements texts effects deinitializer-name qualified count view
+  unfolding params-from join rows form-of kind nominal-kind text-of X.texts bytes print printing printed dotted print-nominal print-tuple in-parens print-function-type print-generic-type print-variable many leaf-text signature-text composition printed-elements texts effects deinitializer-name qualified count view
   pieces-of (Identifier n) h = row-at (form-at 0 (h .kind-is)) (one (omega arith) (omega arith) (N-piece 3 (omega arith) (h .body)))
   pieces-of (Module n) h = row-at (form-at 1 (h .kind-is)) (one (omega arith) (omega arith) (N-piece 3 (omega arith) (h .body)))
   pieces-of (Nominal Class c n) h = row-at (form-at 2 (h .kind-is)) (more (omega arith) (C-piece c 4 (omega arith) (h .body .1)) (more (omega arith) (T-piece 0 (omega arith)) (one (omega arith) (omega arith) (N-piece 3 (omega arith) (h .body .0)))))
@@ -266,15 +266,15 @@ module _ {nm : Names} {ws : List ℕ} {p r : ℕ} (F : FormIs nm ws p r) where
           (more (omega arith) (C-piece b 3 (omega arith) (h .body .0)) (more (omega arith) (T-piece 8 (omega arith)) (more (omega arith) (here (omega arith) (L-arguments args (h .body .2) (h .body .1))) (one (omega arith) (omega arith) (T-piece 9 (omega arith)))))))
       by-sugar (suc zero) s e =
           let (l, a, q) = many-one args (s .optional refl .0) in
-          row-at e (pieces-is (ap (λ (x : Nodes). join ", " (texts (elements x)) ++ bytes "?") q ∙ sym (print-optional b l a (s .optional refl .1)) ∙ ap (λ (x : Nodes). print (BoundGeneric b x)) (sym q))
+          row-at e (pieces-is (ap (λ (x : Nodes). join ", " (texts (printed-elements x)) ++ bytes "?") q ∙ sym (print-optional b l a (s .optional refl .1)) ∙ ap (λ (x : Nodes). print (BoundGeneric b x)) (sym q))
           (more (omega arith) (here (omega arith) (L-arguments args (h .body .2) (h .body .1))) (one (omega arith) (omega arith) (T-piece 12 (omega arith)))))
       by-sugar (suc (suc zero)) s e =
           let (l, a, q) = many-one args (s .array refl .0) in
-          row-at e (pieces-is (ap (λ (x : Nodes). bytes "[" ++ (join ", " (texts (elements x)) ++ bytes "]")) q ∙ sym (print-array b l a (s .array refl .1)) ∙ ap (λ (x : Nodes). print (BoundGeneric b x)) (sym q))
+          row-at e (pieces-is (ap (λ (x : Nodes). bytes "[" ++ (join ", " (texts (printed-elements x)) ++ bytes "]")) q ∙ sym (print-array b l a (s .array refl .1)) ∙ ap (λ (x : Nodes). print (BoundGeneric b x)) (sym q))
           (more (omega arith) (T-piece 10 (omega arith)) (more (omega arith) (here (omega arith) (L-arguments args (h .body .2) (h .body .1))) (one (omega arith) (omega arith) (T-piece 11 (omega arith))))))
       by-sugar (suc (suc (suc zero))) s e =
           let (l, a, m, c, q) = many-two args (s .dictionary refl .0) in
-          row-at e (pieces-is (ap (λ (x : Nodes). bytes "[" ++ (join " : " (texts (elements x)) ++ bytes "]")) q ∙ ap (λ (x : Name). bytes "[" ++ x) (append-assoc (print a) (bytes " : " ++ print c) (bytes "]")) ∙ sym (print-dictionary b l m a c (s .dictionary refl .1)) ∙ ap (λ (x : Nodes). print (BoundGeneric b x)) (sym q))
+          row-at e (pieces-is (ap (λ (x : Nodes). bytes "[" ++ (join " : " (texts (printed-elements x)) ++ bytes "]")) q ∙ ap (λ (x : Name). bytes "[" ++ x) (append-assoc (print a) (bytes " : " ++ print c) (bytes "]")) ∙ sym (print-dictionary b l m a c (s .dictionary refl .1)) ∙ ap (λ (x : Nodes). print (BoundGeneric b x)) (sym q))
           (more (omega arith) (T-piece 10 (omega arith)) (more (omega arith) (here (omega arith) (L-key-value args (h .body .2) (h .body .1))) (one (omega arith) (omega arith) (T-piece 11 (omega arith))))))
       by-sugar (suc (suc (suc (suc g)))) s e = absurd (omega (arith, s .few))
   pieces-of (Function c n ls t) h =

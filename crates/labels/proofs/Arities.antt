@@ -9,6 +9,7 @@ use lib.ListN.{length}
 use borrow.Author.Tests.{eq-eqb, ne-eqb}
 use Rattle.definition.specs.Kind as K
 use Rattle.definition.specs.Node as N
+use Rattle.definition.proofs.Matches.{the-inner, arity-is}
 use Rattle.definition.specs.Node.{Node, Identifier, Module, Nominal, GenericParam, DependentMember, Tuple, FunctionType, GenericType, GenericSignature, ConformanceRequirement, SameTypeRequirement, ProtocolList, Metatype, InOut, BoundGeneric, Function, Variable, Accessor, Initializer, Deinitializer, VariableInitializer, Static, Record, Conformance, ProtocolWitness, ValueWitness, EmptyList, FirstElementMarker, VariadicMarker, Throws, Async, LazyWitness, AssociatedConformance, kind, nominal-kind, view, inner-of}
 use Rattle.definition.specs.Perform as R
 use Rattle.records.specs.Lies.{at, Child, Body, Lies}
@@ -16,8 +17,8 @@ use Rattle.records.specs.Holds.{Names, Named}
 use Rattle.labels.specs.LabelsOf.{Treed}
 
 -- the type under a signature stands in field 4
-inner-child : (nm : Names) (f : ℕ → ℕ) (w : List ℕ) (p : ℕ) (x : Node) → T (eqb (kind x) K.generic-type) → Body (Named nm) x f w p → Child f p 4 (λ q. Lies (Named nm) (inner-of x) w q)
-unfolding kind nominal-kind view inner-of
+inner-child : (nm : Names) (f : ℕ → ℕ) (w : List ℕ) (p : ℕ) (x : Node) → T (eqb (kind x) K.generic-type) → Body (Named nm) x f w p → Child f p 4 (λ q. Lies (Named nm) (the-inner x) w q)
+unfolding kind nominal-kind view inner-of the-inner
 inner-child nm g ws z (Identifier n) h body = absurd h
 inner-child nm g ws z (Module n) h body = absurd h
 inner-child nm g ws z (Nominal N.Class c n) h body = absurd h
@@ -71,18 +72,16 @@ module _ (nm : Names) (w : List ℕ) (p : ℕ) (x : Node) (l : Lies (Named nm) x
   unfolding R.arity-of
   arity-none e = rw (no-kind 10 e) refl
 
-  pub inner : at w p 0 ≡ 11 → Child (at w p) p 4 (λ q. Lies (Named nm) (inner-of x) w q)
+  pub inner : at w p 0 ≡ 11 → Child (at w p) p 4 (λ q. Lies (Named nm) (the-inner x) w q)
   inner e = inner-child nm (at w p) w p x (subst (λ (b : Bool). T b) (sym (is-kind 11 e)) tt) (l .body)
 
   pub arity-inner : (n : ℕ) → at w p 0 ≡ 11 → ((nm′ : Names) (y : Node) → Lies (Named nm′) y w (at w p 4) → n ≡ R.arity-of y) → n ≡ R.arity x
-  unfolding R.arity
   arity-inner n e h =
       let c = inner e in
-      rw (is-kind 11 e) (h nm (inner-of x) (subst (λ (q : ℕ). Lies (Named nm) (inner-of x) w q) (sym (c .is)) (c .holds)))
+      rw (arity-is x, is-kind 11 e) (h nm (the-inner x) (subst (λ (q : ℕ). Lies (Named nm) (the-inner x) w q) (sym (c .is)) (c .holds)))
 
   pub arity-itself : (n : ℕ) → (at w p 0 ≡ 11 → ⊥) → n ≡ R.arity-of x → n ≡ R.arity x
-  unfolding R.arity
-  arity-itself n e h = rw (no-kind 11 e) h
+  arity-itself n e h = rw (arity-is x, no-kind 11 e) h
 
 pub inner-inside : {w : List ℕ} {p top : ℕ} → Treed w p top → 8 * p + 8 ≤ length w → at w p 0 ≡ 11 → 8 * at w p 4 + 8 ≤ length w
 inner-inside {w} {p} t i e = let c = inner (t .names) w p (t .tree) (t .lies) e in omega (arith, c .is, c .below)

@@ -10,7 +10,8 @@ use lib.ListN.{length}
 use borrow.Author.Tests.{eq-eqb, ne-eqb}
 use Rattle.definition.specs.Base.{Name, Out, Step, ok, refused, ret, and-then}
 use Rattle.definition.specs.Kind as K
-use Rattle.definition.specs.Node.{Labels, Node, Identifier, kind, size, name-of}
+use Rattle.definition.proofs.Matches.{the-name, label-in-is}
+use Rattle.definition.specs.Node.{Labels, Node, Identifier, kind, size}
 use Rattle.definition.specs.Machine as M
 use Rattle.definition.specs.Machine.{restack}
 use Rattle.definition.specs.Perform as R
@@ -77,26 +78,23 @@ module _ {w : List ℕ} {N : ℕ} {st u : State} {p : ℕ} (t : Took w N st p u)
     }
 
     pub cell-named : a ≡ at w p 3 → at w p 0 ≡ 0 → GivesCell w w′ N st next (u .top) v
-    unfolding R.label-in
     cell-named q z = cell-made (λ nm x m l.
         let k : K.is-identifier (kind x) ≡ true = eq-eqb (kind x) 0 (sym (l .kind-is) ∙ z) in
-        let e : x ≡ Identifier (name-of x) = identifier-of x (subst (λ (b : Bool). T b) (sym k) tt) in
-        (some (name-of x), rw k refl, subst (λ (i : ℕ). Named nm i (name-of x)) (sym q) ((subst (λ (y : Node). Lies (Named nm) y w p) e l) .body)))
+        let e : x ≡ Identifier (the-name x) = identifier-of x (subst (λ (b : Bool). T b) (sym k) tt) in
+        (some (the-name x), rw (label-in-is x, k) refl, subst (λ (i : ℕ). Named nm i (the-name x)) (sym q) ((subst (λ (y : Node). Lies (Named nm) y w p) e l) .body)))
 
     pub cell-bare : a ≡ absent → (at w p 0 ≡ 0 → ⊥) → at w p 0 ≡ 31 → GivesCell w w′ N st next (u .top) v
-    unfolding R.label-in
     cell-bare q y z = cell-made (λ nm x m l.
         let k : K.is-identifier (kind x) ≡ false = ne-eqb (kind x) 0 (λ e. y (l .kind-is ∙ e)) in
         let j : eqb (kind x) K.first-element-marker ≡ true = eq-eqb (kind x) 31 (sym (l .kind-is) ∙ z) in
-        (none, rw (k, j) refl, q))
+        (none, rw (label-in-is x, k, j) refl, q))
 
   pub no-label : (at w p 0 ≡ 0 → ⊥) → (at w p 0 ≡ 31 → ⊥) → (nm : Names) (sp : Spare) (m : Demangler) → Holds nm w N st sp m → one-label m ≡ refused 10
-  unfolding R.label-in
   no-label y z nm sp m h =
       let o : TopIs nm w N (st .top) p u sp m = t .gives nm sp m h in
       let k : K.is-identifier (kind (o .tree)) ≡ false = ne-eqb (kind (o .tree)) 0 (λ e. y (o .lies .kind-is ∙ e)) in
       let j : eqb (kind (o .tree)) K.first-element-marker ≡ false = ne-eqb (kind (o .tree)) 31 (λ e. z (o .lies .kind-is ∙ e)) in
-      label-from m (o .tree) (o .rest) (o .is) ∙ rw (k, j) refl
+      label-from m (o .tree) (o .rest) (o .is) ∙ rw (label-in-is (o .tree), k, j) refl
 
 pub label-empty : (m : Demangler) → m .stack ≡ [] → one-label m ≡ refused 10
 unfolding M.pop M.pop-if M.pop-from

@@ -6,11 +6,12 @@ use lib.Dec.{T, eqb}
 use Rattle.definition.specs.Base.{if_then_else_}
 use Rattle.definition.specs.Kind as K
 use Rattle.definition.specs.Node as N
+use Rattle.definition.proofs.Matches.{the-name}
 use Rattle.definition.specs.Node.{Node, Nodes, Identifier, Module, Nominal, GenericParam, DependentMember, Tuple, FunctionType, GenericType, GenericSignature, ConformanceRequirement, SameTypeRequirement, ProtocolList, Metatype, InOut, BoundGeneric, Function, Variable, Accessor, Initializer, Deinitializer, VariableInitializer, Static, Record, Conformance, ProtocolWitness, ValueWitness, EmptyList, FirstElementMarker, VariadicMarker, Throws, Async, LazyWitness, AssociatedConformance, kind, nominal-kind, size, view, count, param-count, name-of}
 
 -- a tree of that kind is an identifier
-pub identifier-of : (x : Node) → T (K.is-identifier (kind x)) → x ≡ Identifier (name-of x)
-unfolding kind nominal-kind view name-of
+pub identifier-of : (x : Node) → T (K.is-identifier (kind x)) → x ≡ Identifier (the-name x)
+unfolding kind nominal-kind view name-of the-name
 identifier-of (Identifier n) h = refl
 identifier-of (Module n) h = absurd h
 identifier-of (Nominal N.Class c n) h = absurd h

@@ -8,7 +8,8 @@ use lib.Dec.{T, eqb}
 use Rattle.definition.specs.Base.{ok, refused, and-then, ret}
 use Rattle.definition.specs.Kind as K
 use Rattle.definition.specs.Node as Node·
-use Rattle.definition.specs.Node.{Node, Nodes, nil, cons, Identifier, Nominal, ProtocolList, kind, nominal-kind, size, sizes, many, count, view, name-of, member-of, first-of}
+use Rattle.definition.proofs.Matches.{the-name, the-member, protocol-in-is}
+use Rattle.definition.specs.Node.{Node, Nodes, nil, cons, Identifier, Nominal, ProtocolList, kind, nominal-kind, size, sizes, many, count, view, member-of, only-of}
 use Rattle.definition.specs.Machine as M
 use Rattle.definition.specs.Machine.{restack}
 use Rattle.definition.specs.Perform as R
@@ -32,33 +33,28 @@ protocol-empty m e = rw e refl
 
 -- a tree of a kind, and what is done with it by that kind
 in-direct : (x : Node) (m : Demangler) → kind x ≡ 5 → R.protocol-in x m ≡ ok x m
-unfolding R.protocol-in
-in-direct x m e = rw e refl
+in-direct x m e = rw (protocol-in-is x, e) refl
 
-in-list : (x : Node) (m : Demangler) → kind x ≡ 15 → count x ≡ 1 → R.protocol-in x m ≡ ok (member-of x) m
-unfolding R.protocol-in
-in-list x m e c = rw (e, c) refl
+in-list : (x : Node) (m : Demangler) → kind x ≡ 15 → count x ≡ 1 → R.protocol-in x m ≡ ok (the-member x) m
+in-list x m e c = rw (protocol-in-is x, e, c) refl
 
 in-several : (x : Node) (m : Demangler) → kind x ≡ 15 → eqb (count x) 1 ≡ false → R.protocol-in x m ≡ refused 10
-unfolding R.protocol-in
-in-several x m e c = rw (e, c) refl
+in-several x m e c = rw (protocol-in-is x, e, c) refl
 
-in-name : (x : Node) (m : Demangler) → kind x ≡ 0 → R.protocol-in x m ≡ and-then (R.context m) (λ c. ret (Nominal Node·.Protocol c (name-of x)))
-unfolding R.protocol-in
-in-name x m e = rw e refl
+in-name : (x : Node) (m : Demangler) → kind x ≡ 0 → R.protocol-in x m ≡ and-then (R.context m) (λ c. ret (Nominal Node·.Protocol c (the-name x)))
+in-name x m e = rw (protocol-in-is x, e) refl
 
 in-other : (x : Node) (m : Demangler) → K.is-protocol (kind x) ≡ false → eqb (kind x) 15 ≡ false → K.is-identifier (kind x) ≡ false → R.protocol-in x m ≡ refused 10
-unfolding R.protocol-in
-in-other x m a b c = rw (a, b, c) refl
+in-other x m a b c = rw (protocol-in-is x, a, b, c) refl
 
 -- the one member of a list
 pub record Member (x y : Node) : Type 0 where
-  pub is : member-of x ≡ y
+  pub is : the-member x ≡ y
   pub smaller : size y < size x
   pub lies : (nm : Names) (w : List ℕ) (p : ℕ) → Lies (Named nm) x w p → (at w p 3 < p) × (at w (at w p 3) 4 < at w p 3) × Lies (Named nm) y w (at w (at w p 3) 4)
 
 member : (ps : Nodes) → many ps ≡ 1 → (y : Node) × Member (ProtocolList ps) y
-unfolding many size sizes member-of view first-of
+unfolding many size sizes member-of only-of the-member view
 member nil e = absurd (omega arith)
 member (cons l n (cons l₁ n₁ ns)) e = absurd (omega arith)
 member (cons l n nil) e = (
@@ -102,8 +98,8 @@ module _ {w : List ℕ} {N : ℕ} {st u : State} {p : ℕ} (t : Took w N st p u)
       let c : count x ≡ 1 = sym (l .count-is) ∙ b in
       subst (λ (n : Node). (y : Node) × Member n y) (sym (s .1)) (member (s .0) (ap count (sym (s .1)) ∙ c))
 
-  the-member : at w p 0 ≡ 15 → at w p 2 ≡ 1 → (at w p 3 < p) × (at w (at w p 3) 4 < p) × (at w (at w p 3) 4 < u .top) × (at w (at w (at w p 3) 4) 1 ≤ 262144)
-  the-member a b =
+  member-lies : at w p 0 ≡ 15 → at w p 2 ≡ 1 → (at w p 3 < p) × (at w (at w p 3) 4 < p) × (at w (at w p 3) 4 < u .top) × (at w (at w (at w p 3) 4) 1 ≤ 262144)
+  member-lies a b =
       let g = t .gives (r .names) nothing-spare (r .machine) (r .holds) in
       let y = one-member a b (r .names) nothing-spare (r .machine) (r .holds) (g .tree) (g .lies) in
       let l = y .1 .lies (r .names) w p (g .lies) in
@@ -112,14 +108,14 @@ module _ {w : List ℕ} {N : ℕ} {st u : State} {p : ℕ} (t : Took w N st p u)
       (l .0, omega (arith, l .0, l .1), omega (arith, l .0, l .1, q), omega (arith, l .2 .size-is, y .1 .smaller, h .small, h .charged, h .light))
 
   pub member-inside : at w p 0 ≡ 15 → at w p 2 ≡ 1 → at w p 3 < p
-  member-inside a b = the-member a b .0
+  member-inside a b = member-lies a b .0
 
   pub protocol-member : (q : ℕ) → q ≡ at w (at w p 3) 4 → at w p 0 ≡ 15 → at w p 2 ≡ 1 → Gives R.protocol 2 w w N st q u
   protocol-member q e a b = subst (λ (i : ℕ). Gives R.protocol 2 w w N st i u) (sym e) (record {
-    below = the-member a b .2;
+    below = member-lies a b .2;
     deep = omega (arith, t .deep);
     rising = omega (arith, t .top);
-    small = the-member a b .3;
+    small = member-lies a b .3;
     keeps = keeps-itself w N (st .top);
     gives = λ nm sp m h.
         let g : TopIs nm w N (st .top) p u sp m = t .gives nm sp m h in
@@ -161,13 +157,13 @@ module _ {w : List ℕ} {N : ℕ} {st u : State} {p : ℕ} (t : Took w N st p u)
       given nm sp m h =
           let o : TopIs nm w N (st .top) p u sp m = t .gives nm sp m h in
           let k : kind (o .tree) ≡ 0 = sym (o .lies .kind-is) ∙ a in
-          let e : o .tree ≡ Identifier (name-of (o .tree)) = identifier-of (o .tree) (subst (λ (i : ℕ). T (eqb i 0)) (sym k) tt) in
+          let e : o .tree ≡ Identifier (the-name (o .tree)) = identifier-of (o .tree) (subst (λ (i : ℕ). T (eqb i 0)) (sym k) tt) in
           let one : size (o .tree) ≡ 1 = ap size e in
-          let named : Named nm (at w p 3) (name-of (o .tree)) = (subst (λ (x : Node). Lies (Named nm) x w p) e (o .lies)) .body in
+          let named : Named nm (at w p 3) (the-name (o .tree)) = (subst (λ (x : Node). Lies (Named nm) x w p) e (o .lies)) .body in
           let sp₁ : Spare = spare (sp .makes + 3) (sp .pushes + 1) (sp .nodes + 1) (sp .keeps) in
           let d : Given R.context 1 nm w₁ N q v sp₁ (restack (o .rest) m) = b .gives nm sp₁ (restack (o .rest) m)
           (less-spare (for-push (size (o .tree)) sp) sp₁ (omega arith) (omega arith) (omega (arith, one)) (omega arith) (o .holds)) in
-          let x : Node = Nominal Node·.Protocol (d .tree) (name-of (o .tree)) in
+          let x : Node = Nominal Node·.Protocol (d .tree) (the-name (o .tree)) in
           record {
             tree = x;
             machine = d .machine;
@@ -176,7 +172,7 @@ module _ {w : List ℕ} {N : ℕ} {st u : State} {p : ℕ} (t : Took w N st p u)
               kind-is = refl;
               size-is = ez ∙ omega (arith, d .lies .size-is);
               count-is = refl;
-              body = (subst (λ (i : ℕ). Named nm i (name-of (o .tree))) (sym en) named, record { place = q; is = ec; below = b .below; holds = d .lies }, context-kind (restack (o .rest) m) (d .machine) (d .tree) (d .is));
+              body = (subst (λ (i : ℕ). Named nm i (the-name (o .tree))) (sym en) named, record { place = q; is = ec; below = b .below; holds = d .lies }, context-kind (restack (o .rest) m) (d .machine) (d .tree) (d .is));
             });
             holds = g .holds nm (taken 2 (size x) sp) (d .machine) (less-spare (taken 1 (size (d .tree)) sp₁) (for-record (taken 2 (size x) sp)) (omega arith) (omega arith) (omega arith) (omega arith) (d .holds));
           }

@@ -9,7 +9,8 @@ use native.Mathlib.Omega.{arith}
 use lib.ListN.{length}
 use Rattle.definition.specs.Base.{ok, refused, if_then_else_, is-some}
 use Rattle.definition.specs.Kind as K
-use Rattle.definition.specs.Node.{Node, Identifier, kind, size, view, name-of}
+use Rattle.definition.proofs.Matches.{the-name, name-in-is}
+use Rattle.definition.specs.Node.{Node, Identifier, kind, size, view}
 use Rattle.definition.specs.Machine as M
 use Rattle.definition.specs.Machine.{restack}
 use Rattle.definition.specs.Perform as R
@@ -123,10 +124,10 @@ module _ {w : List ℕ} {N : ℕ} {st u : State} {p : ℕ} (want : ℕ → Bool)
   try-leaves k nm sp m h = let g : TopIs nm w N (st .top) p u sp m = t .gives nm sp m h in try-from-top m (g .tree) (g .rest) false (g .is) (ap want (sym (g .lies .kind-is)) ∙ k)
 
   -- a name
-  name-from : (m : Demangler) (x : Node) (xs : List Node) (b : Bool) → m .stack ≡ x ∷ xs → K.is-identifier (kind x) ≡ b → R.pop-name m ≡ (if b then ok (name-of x) (restack xs m) else refused 10)
-  unfolding R.pop-name R.name-in M.pop M.pop-if M.pop-from
-  name-from m x xs true e k = rw (e, k) refl
-  name-from m x xs false e k = rw (e, k) refl
+  name-from : (m : Demangler) (x : Node) (xs : List Node) (b : Bool) → m .stack ≡ x ∷ xs → K.is-identifier (kind x) ≡ b → R.pop-name m ≡ (if b then ok (the-name x) (restack xs m) else refused 10)
+  unfolding R.pop-name M.pop M.pop-if M.pop-from
+  name-from m x xs true e k = rw (e, name-in-is x, k) refl
+  name-from m x xs false e k = rw (e, name-in-is x, k) refl
 
   pub name-gives : {name : ℕ} → name ≡ at w p 3 → K.is-identifier (at w p 0) ≡ true → GivesName R.pop-name w N st name u
   unfolding kind size view
@@ -136,12 +137,12 @@ module _ {w : List ℕ} {N : ℕ} {st u : State} {p : ℕ} (want : ℕ → Bool)
     gives = λ nm sp m h.
         let o : TopIs nm w N (st .top) p u sp m = t .gives nm sp m h in
         let k : K.is-identifier (kind (o .tree)) ≡ true = ap K.is-identifier (sym (o .lies .kind-is)) ∙ a in
-        let e : o .tree ≡ Identifier (name-of (o .tree)) = identifier-of (o .tree) (subst (λ (b : Bool). T b) (sym k) tt) in
+        let e : o .tree ≡ Identifier (the-name (o .tree)) = identifier-of (o .tree) (subst (λ (b : Bool). T b) (sym k) tt) in
         record {
-          name = name-of (o .tree);
+          name = the-name (o .tree);
           machine = restack (o .rest) m;
           is = name-from m (o .tree) (o .rest) true (o .is) k;
-          named = subst (λ (i : ℕ). Named nm i (name-of (o .tree))) (sym q) ((subst (λ (x : Node). Lies (Named nm) x w p) e (o .lies)) .body);
+          named = subst (λ (i : ℕ). Named nm i (the-name (o .tree))) (sym q) ((subst (λ (x : Node). Lies (Named nm) x w p) e (o .lies)) .body);
           holds = subst (λ (z : ℕ). Holds nm w N u (taken 3 z sp) (restack (o .rest) m)) (ap size e) (o .holds);
         };
   }

@@ -9,6 +9,7 @@ use borrow.Author.Tests.{lt-ltb, le-ltb, ltb-false, eq-eqb, ne-eqb}
 use lib.Dec.{ltb}
 use Rattle.definition.specs.Base.{Name, decimal-before, decimal}
 use Rattle.definition.specs.Print.{param-letters, generic-param-name}
+use Rattle.definition.proofs.Bounds.{digits-bound}
 use Rattle.output.specs.Sink.{Room, Wrote, wrote-is, Rest, rest-start, rest-then, rest-is}
 
 -- DIGITS
@@ -21,18 +22,6 @@ digit-step f m t e = rw (e, decimal-before)
 digits-step : (f m : ℕ) (t : Name) → ltb m 10 ≡ false → decimal-before (suc f) m t ≡ decimal-before f (m / 10) ((48 + m % 10) ∷ t)
 unfolding decimal-before
 digits-step f m t e = rw (e, decimal-before)
-
--- any bound above the number serves
-digits-bound : (f g m : ℕ) (t : Name) → m < f → m < g → decimal-before f m t ≡ decimal-before g m t
-digits-bound zero g m t a b = absurd (omega arith)
-digits-bound (suc f) zero m t a b = absurd (omega arith)
-digits-bound (suc f) (suc g) m t a b = by-size (digits-bound f g (m / 10) ((48 + m % 10) ∷ t)) (ltb m 10) refl
-  where
-    by-size : (m / 10 < f → m / 10 < g → decimal-before f (m / 10) ((48 + m % 10) ∷ t) ≡ decimal-before g (m / 10) ((48 + m % 10) ∷ t)) → (x : Bool) → ltb m 10 ≡ x → decimal-before (suc f) m t ≡ decimal-before (suc g) m t
-    by-size ih true e = digit-step f m t e ∙ sym (digit-step g m t e)
-    by-size ih false e =
-        let h : 10 ≤ m = ltb-false m 10 e in
-        digits-step f m t e ∙ ih (omega arith) (omega arith) ∙ sym (digits-step g m t e)
 
 -- what follows the digits
 digits-then : (f m : ℕ) (t u : Name) → decimal-before f m (t ++ u) ≡ decimal-before f m t ++ u

@@ -13,7 +13,7 @@ use Rattle.definition.specs.Text.{Text}
 use Rattle.definition.specs.Kind as K
 use Rattle.definition.specs.Node as D
 use Rattle.definition.specs.Node.{Node, Nodes, nil, cons, Tuple, FunctionType, GenericType, kind, many, count, view}
-use Rattle.definition.specs.Print.{join, labelled, label-at, params-from, in-parens, effects, print-tuple, print-function-type, print-generic-type, printing, elements, print, print-params}
+use Rattle.definition.specs.Print.{join, labelled, label-at, params-from, in-parens, effects, print-tuple, print-function-type, print-generic-type, printing, printed-elements, print, print-params}
 use Rattle.definition.proofs.PrintEquations.{params-of-other, behind-of-other, signed-of-other}
 use Rattle.words.specs.declared.Words.{Words}
 use Rattle.output.specs.Sink.{Room, Wrote, wrote-is, wrote-then, Rest, rest-start, rest-then, rest-is, rest-end, rest-past}
@@ -141,8 +141,8 @@ record Open (nm : Names) (ws : List ℕ) (host k n i sep : ℕ) (shown : Bool) (
   celled : Celled nm ws (at ws host k) i sep shown l first
   behind : (r : Labels) → NextLabels ws l r → Listed nm ws (at ws host k) 5 n (i + 1) sep shown r rest
 
-open-cells : (nm : Names) (ws : List ℕ) (host k n i sep : ℕ) (shown : Bool) (l : Labels) (s : Name) (ns : Nodes) → Cells (Named nm) ns k (at ws host) ws host → n ≡ i + many ns → (ls : List (Option Name)) → LabelsIn nm ws ls l → s ≡ left sep i (with-labels shown ls (elements ns)) → i < n → Open nm ws host k n i sep shown l s
-unfolding elements with-labels print many
+open-cells : (nm : Names) (ws : List ℕ) (host k n i sep : ℕ) (shown : Bool) (l : Labels) (s : Name) (ns : Nodes) → Cells (Named nm) ns k (at ws host) ws host → n ≡ i + many ns → (ls : List (Option Name)) → LabelsIn nm ws ls l → s ≡ left sep i (with-labels shown ls (printed-elements ns)) → i < n → Open nm ws host k n i sep shown l s
+unfolding printed-elements with-labels print many
 open-cells nm ws host k n i sep shown l s nil c e ls a q h = absurd (omega arith)
 open-cells nm ws host k n i sep shown l s (cons x y ns) c e ls a q h =
     let z : c .place ≡ at ws host k = sym (c .is) in
@@ -150,8 +150,8 @@ open-cells nm ws host k n i sep shown l s (cons x y ns) c e ls a q h =
     record {
       below = subst (λ (j : ℕ). j < host) z (c .below);
       first = sep-before i sep ++ t;
-      rest = left sep (i + 1) (with-labels shown (behind-first ls) (elements ns));
-      is = q ∙ left-more sep i t (with-labels shown (behind-first ls) (elements ns)) ∙ sym (append-assoc (sep-before i sep) t (left sep (i + 1) (with-labels shown (behind-first ls) (elements ns))));
+      rest = left sep (i + 1) (with-labels shown (behind-first ls) (printed-elements ns));
+      is = q ∙ left-more sep i t (with-labels shown (behind-first ls) (printed-elements ns)) ∙ sym (append-assoc (sep-before i sep) t (left sep (i + 1) (with-labels shown (behind-first ls) (printed-elements ns))));
       celled = record {
         label = x;
         label-is = subst (λ (j : ℕ). LabelIs (Named nm) x (at ws j 3)) z (c .holds .0);
@@ -174,8 +174,8 @@ open-cells nm ws host k n i sep shown l s (cons x y ns) c e ls a q h =
 opened : {nm : Names} {ws : List ℕ} {host k n i sep : ℕ} {shown : Bool} {l : Labels} {s : Name} → Listed nm ws host k n i sep shown l s → i < n → Open nm ws host k n i sep shown l s
 opened {nm} {ws} {host} {k} {n} {i} {sep} {shown} {l} {s} h e = open-cells nm ws host k n i sep shown l s (h .nodes) (h .cells) (h .count) (h .labels) (h .are) (h .is) e
 
-no-cells : (ns : Nodes) (sep i : ℕ) (shown : Bool) (ls : List (Option Name)) → many ns ≡ 0 → left sep i (with-labels shown ls (elements ns)) ≡ []
-unfolding many elements with-labels
+no-cells : (ns : Nodes) (sep i : ℕ) (shown : Bool) (ls : List (Option Name)) → many ns ≡ 0 → left sep i (with-labels shown ls (printed-elements ns)) ≡ []
+unfolding many printed-elements with-labels
 no-cells nil sep i shown ls e = left-none sep i
 no-cells (cons x y ns) sep i shown ls e = absurd (omega arith)
 
@@ -281,9 +281,9 @@ module _ (nm : Names) (ws : List ℕ) (p : ℕ) (l : Labels) {k : ℕ} (ek : k �
       let m : Lies (Named nm) (Tuple es) ws p = subst (λ (x : Node). Lies (Named nm) x ws p) q (h .lies) in
       let c : at ws p 2 ≡ many es = m .count-is in
       record {
-        inner = join ", " (params-from 0 (h .labels) (elements es));
+        inner = join ", " (params-from 0 (h .labels) (printed-elements es));
         is = h .is ∙ ap (λ (x : Node). printing x .params (h .labels)) q;
-        elements-lie = record { nodes = es; cells = m .body; count = omega arith; labels = listed (h .labels); are = h .are; is = ap (join ", ") (shown-labels (h .labels) (elements es)) };
+        elements-lie = record { nodes = es; cells = m .body; count = omega arith; labels = listed (h .labels); are = h .are; is = ap (join ", ") (shown-labels (h .labels) (printed-elements es)) };
       }
 
   module _ {f : ListForm} (ef : f ≡ list-of ws p 32) where

@@ -36,7 +36,7 @@ use Rattle.read_turns.specs.declared.Letter.the-variants as Letter
 
 module _ (N : ℕ) (m : Demangler) where
   -- an item, then the rest
-  performs-more : (t i : ℕ) (ch : Chain) → performs N (outcome (more (Op.copies t i) ch)) m ≡ and-then (recall-copies N t i m) (λ x. performs N (outcome ch))
+  performs-more : (t i : ℕ) (ch : Chain) → performs N (outcome (more (Op.substitution t i) ch)) m ≡ and-then (recall-copies N t i m) (λ x. performs N (outcome ch))
   unfolding then-run R.perform R.substitutions
   performs-more t i ch = regroup (M.recall i m) (λ e. R.copied N t e) (R.substitutions N (ch .items) (ch .late)) (ret (ch .rest))
 

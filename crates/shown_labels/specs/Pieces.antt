@@ -12,7 +12,7 @@ use Rattle.definition.specs.Kind as K
 use Rattle.definition.specs.Node as D
 use Rattle.definition.specs.Node.{Node, Nodes, many}
 use Rattle.definition.specs.Operators.{suspend-resume-text}
-use Rattle.definition.specs.Print.{Printed, Element, labelled, effects, join, generic-param-name, param-names, printing, elements, print}
+use Rattle.definition.specs.Print.{Printed, Element, labelled, effects, join, generic-param-name, param-names, printing, printed-elements, print}
 use Rattle.words.specs.declared.Words.{Words}
 use Rattle.records.specs.Lies.{at, Child, LabelIs, LabelCells, Cells, Lies, absent}
 use Rattle.records.specs.Holds.{Names, Named}
@@ -138,7 +138,7 @@ pub record Listed (nm : Names) (ws : List ℕ) (host k n i sep : ℕ) (shown : B
   pub count : n ≡ i + many nodes
   pub labels : List (Option Name)
   pub are : LabelsIn nm ws labels l
-  pub is : s ≡ left sep i (with-labels shown labels (elements nodes))
+  pub is : s ≡ left sep i (with-labels shown labels (printed-elements nodes))
 
 -- the text of one cell, with what stands before it
 pub record Celled (nm : Names) (ws : List ℕ) (cell i sep : ℕ) (shown : Bool) (l : Labels) (s : Name) : Type 0 where

@@ -11,7 +11,7 @@ use lib.Dec.{ltb, leb, eqb}
 use lib.ListN.{length, getD, drop, length-drop}
 use Rattle.definition.specs.Base.{is, digit, lower, upper, Out, ok, refused, good, bad, pick}
 use Rattle.definition.specs.Text.{Text, peek, digits, natural}
-use Rattle.definition.specs.Operators.{operator, operators, Operator, Copies, copies, substitutions, substitutions-from, substitutions-letters}
+use Rattle.definition.specs.Operators.{operator, operators, Operator, Substitution, substitution, substitutions, substitutions-from, substitutions-letters}
 use Rattle.text.proofs.Steps.{front, ended as ended-text, digit-high, natural-reads, natural-other, peek-none, differ}
 use Rattle.substitutions.specs.Chain.{Chain, ended, more, last, times-of, past-of, item, chain-from, chain-after, chain, outcome, Copied}
 use Rattle.substitutions.specs.declared.SubstitutionRead.{SubstitutionRead}
@@ -46,7 +46,7 @@ natural-rest c t = natural-rest-by c t (digit c) refl
 -- FUEL DOES NOT MATTER
 item-same : (go go′ : Option ℕ → Text → Chain) (repeat : Option ℕ) (c : ℕ) (t : Text) → ((r : Option ℕ) (v : Text) → length v ≤ length t → go r v ≡ go′ r v) → (l u d : Bool) (o : Out Text ℕ) → Rest (length t) o → item go repeat c t l u d o ≡ item go′ repeat c t l u d o
 unfolding item
-item-same go go′ repeat c t h true u d o k = ap (more (copies (times-of repeat) (c - 97))) (h none t (le-refl _))
+item-same go go′ repeat c t h true u d o k = ap (more (substitution (times-of repeat) (c - 97))) (h none t (le-refl _))
 item-same go go′ repeat c t h false true d o k = refl
 item-same go go′ repeat c t h false false true o k = refl
 item-same go go′ repeat c t h false false false (ok n v) k = h (some n) v (k .0)
@@ -67,16 +67,16 @@ chain-fuel (suc f) (suc g) repeat (c ∷ t) h k =
 
 -- THE DEFINITION'S LETTERS
 -- with what was done before
-abbrev pub outcome-after : List Copies → Chain → Out Text Operator
+abbrev pub outcome-after : List Substitution → Chain → Out Text Operator
 outcome-after done ch = ok (substitutions (done ++ ch .items) (ch .late)) (ch .rest)
 
-module _ (f : ℕ) (repeat : Option ℕ) (done : List Copies) (c : ℕ) (t : Text) (h : (r : Option ℕ) (d : List Copies) (v : Text) → substitutions-from f r d v ≡ outcome-after d (chain-from f r v)) where
+module _ (f : ℕ) (repeat : Option ℕ) (done : List Substitution) (c : ℕ) (t : Text) (h : (r : Option ℕ) (d : List Substitution) (v : Text) → substitutions-from f r d v ≡ outcome-after d (chain-from f r v)) where
   by-item : (l u d : Bool) (o : Out Text ℕ) → _≡_ {A = Out Text Operator} (elim l as (λ b. Out Text Operator) [
-    | true ↦ substitutions-from f none (done ++ (copies (times-of repeat) (c - 97) ∷ [])) t
+    | true ↦ substitutions-from f none (done ++ (substitution (times-of repeat) (c - 97) ∷ [])) t
     | false ↦ elim u as (λ b. Out Text Operator) [
-      | true ↦ ok (substitutions (done ++ (copies (times-of repeat) (c - 65) ∷ [])) (good tt)) t
+      | true ↦ ok (substitutions (done ++ (substitution (times-of repeat) (c - 65) ∷ [])) (good tt)) t
       | false ↦ elim d as (λ b. Out Text Operator) [
-        | true ↦ ok (substitutions (done ++ (copies 1 (past-of repeat) ∷ [])) (good tt)) t
+        | true ↦ ok (substitutions (done ++ (substitution 1 (past-of repeat) ∷ [])) (good tt)) t
         | false ↦ elim o as (λ b. Out Text Operator) [
           | ok n v ↦ substitutions-from f (some n) done v
           | refused r ↦ ok (substitutions done (bad r)) t
@@ -86,21 +86,21 @@ module _ (f : ℕ) (repeat : Option ℕ) (done : List Copies) (c : ℕ) (t : Tex
   ]) (outcome-after done (item (chain-from f) repeat c t l u d o))
   unfolding item
   by-item true u d o =
-      h none (done ++ (copies (times-of repeat) (c - 97) ∷ [])) t
-      ∙ ap (λ x. ok (substitutions x (chain-from f none t .late)) (chain-from f none t .rest)) (append-assoc done (copies (times-of repeat) (c - 97) ∷ []) (chain-from f none t .items))
+      h none (done ++ (substitution (times-of repeat) (c - 97) ∷ [])) t
+      ∙ ap (λ x. ok (substitutions x (chain-from f none t .late)) (chain-from f none t .rest)) (append-assoc done (substitution (times-of repeat) (c - 97) ∷ []) (chain-from f none t .items))
   by-item false true d o = refl
   by-item false false true o = refl
   by-item false false false (ok n v) = h (some n) done v
   by-item false false false (refused r) = ap (λ x. ok (substitutions x (bad r)) t) (sym (append-nil done))
 
-pub letters-from : (f : ℕ) (repeat : Option ℕ) (done : List Copies) (t : Text) → substitutions-from f repeat done t ≡ outcome-after done (chain-from f repeat t)
+pub letters-from : (f : ℕ) (repeat : Option ℕ) (done : List Substitution) (t : Text) → substitutions-from f repeat done t ≡ outcome-after done (chain-from f repeat t)
 unfolding substitutions-from chain-from
 letters-from zero repeat done t = ap (λ x. ok (substitutions x (bad 9)) t) (sym (append-nil done))
 letters-from (suc f) repeat done [] = ap (λ x. ok (substitutions x (bad 9)) []) (sym (append-nil done))
 letters-from (suc f) repeat done (c ∷ t) = by-item f repeat done c t (letters-from f) (lower c) (upper c) (is "_" c) (natural (c ∷ t))
 
 -- any fuel that is enough gives the same letters
-pub letters-are : (f : ℕ) (done : List Copies) (t : Text) → length t ≤ f → substitutions-from f none done t ≡ outcome-after done (chain t)
+pub letters-are : (f : ℕ) (done : List Substitution) (t : Text) → length t ≤ f → substitutions-from f none done t ≡ outcome-after done (chain t)
 letters-are f done t h = letters-from f none done t ∙ ap (outcome-after done) (chain-fuel f (length t) none t h (le-refl _))
 
 -- the chain is the definition's
@@ -156,22 +156,22 @@ module _ (text : Text) (at : ℕ) (repeat : Option ℕ) where
     here = ap (chain-after repeat) (front text at h)
 
     module _ (times i : ℕ) (e : times ≡ times-of repeat) where
-      pub item-lower : lower (getD text at 0) ≡ true → i ≡ getD text at 0 - 97 → chain-after repeat (drop at text) ≡ more (copies times i) (chain (drop (at + 1) text))
+      pub item-lower : lower (getD text at 0) ≡ true → i ≡ getD text at 0 - 97 → chain-after repeat (drop at text) ≡ more (substitution times i) (chain (drop (at + 1) text))
       unfolding item letter behind by-letter
       item-lower l k =
           here
           ∙ ap (λ x. by-letter x (upper letter) (eqb letter 95) (natural (letter ∷ behind))) l
-          ∙ ap (λ (n : ℕ). more (copies n (letter - 97)) (chain behind)) (sym e)
-          ∙ ap (λ (j : ℕ). more (copies times j) (chain behind)) (sym k)
+          ∙ ap (λ (n : ℕ). more (substitution n (letter - 97)) (chain behind)) (sym e)
+          ∙ ap (λ (j : ℕ). more (substitution times j) (chain behind)) (sym k)
 
-      pub item-upper : lower (getD text at 0) ≡ false → upper (getD text at 0) ≡ true → i ≡ getD text at 0 - 65 → chain-after repeat (drop at text) ≡ last (copies times i) (drop (at + 1) text)
+      pub item-upper : lower (getD text at 0) ≡ false → upper (getD text at 0) ≡ true → i ≡ getD text at 0 - 65 → chain-after repeat (drop at text) ≡ last (substitution times i) (drop (at + 1) text)
       unfolding item letter behind by-letter
       item-upper l u k =
           here
           ∙ ap (λ x. by-letter x (upper letter) (eqb letter 95) (natural (letter ∷ behind))) l
           ∙ ap (λ x. by-letter false x (eqb letter 95) (natural (letter ∷ behind))) u
-          ∙ ap (λ (n : ℕ). last (copies n (letter - 65)) behind) (sym e)
-          ∙ ap (λ (j : ℕ). last (copies times j) behind) (sym k)
+          ∙ ap (λ (n : ℕ). last (substitution n (letter - 65)) behind) (sym e)
+          ∙ ap (λ (j : ℕ). last (substitution times j) behind) (sym k)
 
     module _ (l : lower (getD text at 0) ≡ false) (u : upper (getD text at 0) ≡ false) where
       no-case : chain-after repeat (drop at text) ≡ by-letter false false (eqb letter 95) (natural (letter ∷ behind))
@@ -181,7 +181,7 @@ module _ (text : Text) (at : ℕ) (repeat : Option ℕ) where
           ∙ ap (λ x. by-letter x (upper letter) (eqb letter 95) (natural (letter ∷ behind))) l
           ∙ ap (λ x. by-letter false x (eqb letter 95) (natural (letter ∷ behind))) u
 
-      pub item-past : getD text at 0 ≡ 95 → chain-after repeat (drop at text) ≡ last (copies 1 (past-of repeat)) (drop (at + 1) text)
+      pub item-past : getD text at 0 ≡ 95 → chain-after repeat (drop at text) ≡ last (substitution 1 (past-of repeat)) (drop (at + 1) text)
       unfolding item letter behind by-letter
       item-past e = no-case ∙ ap (λ x. by-letter false false x (natural (letter ∷ behind))) (eq-eqb letter 95 e)
 

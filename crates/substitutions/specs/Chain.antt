@@ -1,4 +1,4 @@
--- The letters behind `A`, item by item (lines 880 to 902). Assumes nothing.
+-- The letters behind `A`, item by item (lines 880 to 900). Assumes nothing.
 use mathlib.Core.Path.{_≡_}
 use mathlib.Core.Bool.{Bool, true, false}
 use mathlib.Core.List.{List, [], _∷_}
@@ -8,7 +8,7 @@ use Prim.Native.Nat.{ℕ, zero, suc, _+_, _-_, _^_, _≤_, _<_, max}
 use lib.ListN.{length, drop}
 use Rattle.definition.specs.Base.{given, is, lower, upper, Out, ok, refused, Done, Late, good, bad}
 use Rattle.definition.specs.Text.{Text, natural}
-use Rattle.definition.specs.Operators.{Operator, Copies, copies, substitutions}
+use Rattle.definition.specs.Operators.{Operator, Substitution, substitution, substitutions}
 use Rattle.definition.specs.Enums.{number}
 use Rattle.text.specs.declared.Cursor.{Cursor}
 use Rattle.substitutions.specs.declared.SubstitutionRead.{SubstitutionRead}
@@ -16,18 +16,18 @@ use Rattle.substitutions.specs.declared.SubstitutionRead.the-variants as
 
 -- the items, how the letters ended, and the text behind them
 pub record Chain : Type 0 where
-  pub items : List Copies
+  pub items : List Substitution
   pub late : Late Done
   pub rest : Text
 
 abbrev pub ended : Late Done → Text → Chain
 ended l u = record { items = []; late = l; rest = u }
 
-abbrev pub more : Copies → Chain → Chain
+abbrev pub more : Substitution → Chain → Chain
 more x ch = record { items = x ∷ ch .items; late = ch .late; rest = ch .rest }
 
 -- the last item
-abbrev pub last : Copies → Text → Chain
+abbrev pub last : Substitution → Text → Chain
 last x u = more x (ended (good tt) u)
 
 -- the copies that a repeat asks for, and the index of `_` behind it
@@ -39,9 +39,9 @@ past-of repeat = given repeat 26 (λ n. n + 27)
 
 -- one letter c, with t behind it, and how to go on: whether it is lower case, a capital, or `_`; else the number that begins there
 unfoldable pub item : (Option ℕ → Text → Chain) → Option ℕ → ℕ → Text → Bool → Bool → Bool → Out Text ℕ → Chain
-item go repeat c t true u d o = more (copies (times-of repeat) (c - 97)) (go none t)
-item go repeat c t false true d o = last (copies (times-of repeat) (c - 65)) t
-item go repeat c t false false true o = last (copies 1 (past-of repeat)) t
+item go repeat c t true u d o = more (substitution (times-of repeat) (c - 97)) (go none t)
+item go repeat c t false true d o = last (substitution (times-of repeat) (c - 65)) t
+item go repeat c t false false true o = last (substitution 1 (past-of repeat)) t
 item go repeat c t false false false (ok n v) = go (some n) v
 item go repeat c t false false false (refused r) = ended (bad r) t
 
@@ -68,7 +68,7 @@ Same i j = (i ≡ j) ⊎ ((2 ^ 32 ≤ i) × (2 ^ 32 ≤ j))
 
 -- the chain ch from the place `at` on begins with t copies of i, and goes on at c
 pub record Begins (ch : Chain) (text : Text) (at t i : ℕ) (c : Cursor) : Type 0 where
-  pub is : ch ≡ more (copies t i) (chain (drop (c .at) text))
+  pub is : ch ≡ more (substitution t i) (chain (drop (c .at) text))
   pub some : 0 < t
   pub inside : c .at ≤ length text
   pub onward : at < c .at
@@ -77,7 +77,7 @@ pub record Begins (ch : Chain) (text : Text) (at t i : ℕ) (c : Cursor) : Type 
 pub record Ends (ch : Chain) (text : Text) (at t i : ℕ) (c : Cursor) : Type 0 where
   pub index : ℕ
   pub same : Same i index
-  pub is : ch ≡ last (copies t index) (drop (c .at) text)
+  pub is : ch ≡ last (substitution t index) (drop (c .at) text)
   pub some : 0 < t
   pub inside : c .at ≤ length text
   pub onward : at < c .at

@@ -9,7 +9,8 @@ use native.Mathlib.Numerals.{add-one}
 use borrow.Author.Tests.{lt-ltb, le-ltb, ltb-true}
 use lib.ListN.{length, getD, drop, length-drop, List·getD-map}
 use lib.Seq.{drop-cons}
-use Rattle.definition.specs.Text.{Text, Row, row, rows, between, tails, second, by-row, character, ill-formed-from, ill-formed, well-formed}
+use Rattle.definition.specs.Base.{between}
+use Rattle.definition.specs.Text.{Text, Utf8Row, utf8-row, utf8-rows, tails, second, by-row, character, ill-formed-from, ill-formed, well-formed}
 use Rattle.utf8.specs.Utf8.{row-at, Follows, Passed, below-80}
 use Rattle.utf8.specs.declared.Behind.{Behind}
 use Rattle.utf8.specs.declared.Behind.the-variants as Behind
@@ -18,30 +19,30 @@ use Rattle.text.proofs.Steps.{front, ended}
 
 -- THE TABLE
 -- a column of the table at a row
-pub column-at : (f : Row → ℕ) (i : ℕ) → getD (map f rows) i (f (row 0 0 0 0 0)) ≡ f (row-at rows i)
-column-at f i = List·getD-map f rows i (row 0 0 0 0 0)
+pub column-at : (f : Utf8Row → ℕ) (i : ℕ) → getD (map f utf8-rows) i (f (utf8-row 0 0 0 0 0)) ≡ f (row-at utf8-rows i)
+column-at f i = List·getD-map f utf8-rows i (utf8-row 0 0 0 0 0)
 
-row-front : (i : ℕ) → i < 8 → drop i rows ≡ row-at rows i ∷ drop (i + 1) rows
-unfolding rows
-row-front i h = drop-cons rows i (row 0 0 0 0 0) h ∙ ap (λ (n : ℕ). row-at rows i ∷ drop n rows) (sym (add-one i))
+row-front : (i : ℕ) → i < 8 → drop i utf8-rows ≡ row-at utf8-rows i ∷ drop (i + 1) utf8-rows
+unfolding utf8-rows
+row-front i h = drop-cons utf8-rows i (utf8-row 0 0 0 0 0) h ∙ ap (λ (n : ℕ). row-at utf8-rows i ∷ drop n utf8-rows) (sym (add-one i))
 
 -- the loop of `row_of`: no row before i begins with b
 pub record Searching (b i : ℕ) : Type 0 where
   pub inside : i ≤ 8
-  pub same : (t : Text) → by-row b rows t ≡ by-row b (drop i rows) t
+  pub same : (t : Text) → by-row b utf8-rows t ≡ by-row b (drop i utf8-rows) t
 
 module _ (b i : ℕ) (t : Text) where
-  pub row-here : i < 8 → between (row-at rows i .first) (row-at rows i .last) b ≡ true → by-row b (drop i rows) t ≡ second (row-at rows i) t
+  pub row-here : i < 8 → between (row-at utf8-rows i .first) (row-at utf8-rows i .last) b ≡ true → by-row b (drop i utf8-rows) t ≡ second (row-at utf8-rows i) t
   unfolding by-row
   row-here h e = rw (row-front i h, by-row, e)
 
-  pub row-later : i < 8 → between (row-at rows i .first) (row-at rows i .last) b ≡ false → by-row b (drop i rows) t ≡ by-row b (drop (i + 1) rows) t
+  pub row-later : i < 8 → between (row-at utf8-rows i .first) (row-at utf8-rows i .last) b ≡ false → by-row b (drop i utf8-rows) t ≡ by-row b (drop (i + 1) utf8-rows) t
   unfolding by-row
   row-later h e = rw (row-front i h, by-row, e)
 
-  pub row-none : i ≡ 8 → by-row b (drop i rows) t ≡ none
-  unfolding by-row rows
-  row-none e = ap (λ (n : ℕ). by-row b (drop n rows) t) e
+  pub row-none : i ≡ 8 → by-row b (drop i utf8-rows) t ≡ none
+  unfolding by-row utf8-rows
+  row-none e = ap (λ (n : ℕ). by-row b (drop n utf8-rows) t) e
 
 -- THE BYTES AFTER THE FIRST
 -- the loop of `tails`
@@ -71,7 +72,7 @@ module _ (text : Text) (at : ℕ) where
   tails-done zero z = refl
   tails-done (suc n) z = absurd (omega arith)
 
-  module _ (r : Row) where
+  module _ (r : Utf8Row) where
     pub second-read : at < length text → between (r .low) (r .high) (getD text at 0) ≡ true → second r (drop at text) ≡ tails (r .more) (drop (at + 1) text)
     unfolding second
     second-read h e = rw (front text at h, second, e)
@@ -88,7 +89,7 @@ pub character-ascii : (b : ℕ) (t : Text) → b < 128 → character b t ≡ som
 unfolding character
 character-ascii b t h = rw (character, lt-ltb _ _ h)
 
-pub character-row : (b : ℕ) (t : Text) → 128 ≤ b → character b t ≡ by-row b rows t
+pub character-row : (b : ℕ) (t : Text) → 128 ≤ b → character b t ≡ by-row b utf8-rows t
 unfolding character
 character-row b t h = rw (character, le-ltb _ _ h)
 

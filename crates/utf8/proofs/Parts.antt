@@ -9,7 +9,8 @@ use borrow.Author.Tests.{ltb-true, ltb-false, leb-true, le-leb, lt-leb}
 use lib.Dec.{leb, ltb}
 use lib.ListN.{length, getD, take, drop, length-append, length-drop, List·getD-append, List·getD-eq-default}
 use lib.Seq.{take-append-le, take-append-add, drop-append-add, getD-append-add, getD-drop}
-use Rattle.definition.specs.Text.{Text, Row, rows, between, tails, second, by-row, character, ill-formed-from, ill-formed, well-formed}
+use Rattle.definition.specs.Base.{between}
+use Rattle.definition.specs.Text.{Text, Utf8Row, utf8-rows, tails, second, by-row, character, ill-formed-from, ill-formed, well-formed}
 use Rattle.text.proofs.Steps.{front, differ}
 use Rattle.utf8.proofs.Characters.{character-ascii, character-row, well-formed-no, well-formed-all}
 
@@ -69,34 +70,34 @@ tails-takes zero t e = takes-nothing (λ v. refl) e
 tails-takes (suc n) t e = takes-tested {g = tails n} tail (λ b k. k) refl (λ b v k. rw (tails, k)) (λ b v k. rw (tails, k)) t (λ v. tails-takes n v) e
 
 -- a row's second bytes are of 80 to BF, and its first bytes are not
-fits : Row → Bool
+fits : Utf8Row → Bool
 fits r = leb 0xC0 (r .first) && (leb 0x80 (r .low) && leb (r .high) 0xBF)
 
-all-fit : List Row → Bool
+all-fit : List Utf8Row → Bool
 all-fit [] = true
 all-fit (r ∷ rs) = fits r && all-fit rs
 
-rows-fit : all-fit rows ≡ true
-unfolding all-fit fits rows
+rows-fit : all-fit utf8-rows ≡ true
+unfolding all-fit fits utf8-rows
 rows-fit = refl
 
 -- the first row of a list fits, and so do the others
-first-fits : (r : Row) (rs : List Row) → all-fit (r ∷ rs) ≡ true → (fits r ≡ true) × (all-fit rs ≡ true)
+first-fits : (r : Utf8Row) (rs : List Utf8Row) → all-fit (r ∷ rs) ≡ true → (fits r ≡ true) × (all-fit rs ≡ true)
 unfolding all-fit
 first-fits r rs h = and-eq-true-iff (fits r) (all-fit rs) .0 h
 
-second-high : (r : Row) → fits r ≡ true → (b : ℕ) → between (r .low) (r .high) b ≡ true → tail b ≡ true
+second-high : (r : Utf8Row) → fits r ≡ true → (b : ℕ) → between (r .low) (r .high) b ≡ true → tail b ≡ true
 unfolding fits
 second-high r h b e =
     let k = both 0x80 (r .low) (r .high) 0xBF (and-eq-true-iff (leb 0xC0 (r .first)) (leb 0x80 (r .low) && leb (r .high) 0xBF) .0 h .1) in
     let i = both (r .low) b b (r .high) e in
     and-eq-true-iff (leb 0x80 b) (leb b 0xBF) .1 (le-leb 0x80 b (omega (arith, k .0, i .0)), le-leb b 0xBF (omega (arith, k .1, i .1)))
 
-second-takes : (r : Row) → fits r ≡ true → (t : Text) {u : Text} → second r t ≡ some u → Takes (second r) t u
+second-takes : (r : Utf8Row) → fits r ≡ true → (t : Text) {u : Text} → second r t ≡ some u → Takes (second r) t u
 unfolding second
 second-takes r h t e = takes-tested {g = tails (r .more)} (between (r .low) (r .high)) (second-high r h) refl (λ b v k. rw (second, k)) (λ b v k. rw (second, k)) t (λ v. tails-takes (r .more) v) e
 
-by-row-takes : (b : ℕ) (rs : List Row) → all-fit rs ≡ true → (t : Text) {u : Text} → by-row b rs t ≡ some u → Takes (by-row b rs) t u
+by-row-takes : (b : ℕ) (rs : List Utf8Row) → all-fit rs ≡ true → (t : Text) {u : Text} → by-row b rs t ≡ some u → Takes (by-row b rs) t u
 unfolding by-row
 by-row-takes b [] h t e = absurd (never e)
 by-row-takes b (r ∷ rs) h t {u} e = by (λ k. by-row-takes b rs (first-fits r rs h .1) t k) (between (r .first) (r .last) b) refl
@@ -109,7 +110,7 @@ by-row-takes b (r ∷ rs) h t {u} e = by (λ k. by-row-takes b rs (first-fits r 
         let past : (v : Text) → by-row b (r ∷ rs) v ≡ by-row b rs v = λ v. rw (by-row, k) in
         takes-same past (later (sym (past t) ∙ e))
 
-by-row-low : (b : ℕ) → b < 0xC0 → (rs : List Row) → all-fit rs ≡ true → (t : Text) → by-row b rs t ≡ none
+by-row-low : (b : ℕ) → b < 0xC0 → (rs : List Utf8Row) → all-fit rs ≡ true → (t : Text) → by-row b rs t ≡ none
 unfolding by-row fits
 by-row-low b l [] h t = refl
 by-row-low b l (r ∷ rs) h t =
@@ -124,12 +125,12 @@ character-takes b t {u} e = by (ltb b 0x80) refl
     by : (d : Bool) → ltb b 0x80 ≡ d → Takes (character b) t u
     by true k = takes-nothing (λ v. character-ascii b v (ltb-true _ _ k)) e
     by false k =
-        let row-of : (v : Text) → character b v ≡ by-row b rows v = λ v. character-row b v (ltb-false _ _ k) in
-        takes-same row-of (by-row-takes b rows rows-fit t (sym (row-of t) ∙ e))
+        let row-of : (v : Text) → character b v ≡ by-row b utf8-rows v = λ v. character-row b v (ltb-false _ _ k) in
+        takes-same row-of (by-row-takes b utf8-rows rows-fit t (sym (row-of t) ∙ e))
 
 -- a byte of 80 to BF begins no character
 pub character-tail : (b : ℕ) (t : Text) → tail b ≡ true → character b t ≡ none
-character-tail b t h = let k = both 0x80 b b 0xBF h in character-row b t (k .0) ∙ by-row-low b (omega (arith, k .1)) rows rows-fit t
+character-tail b t h = let k = both 0x80 b b 0xBF h in character-row b t (k .0) ∙ by-row-low b (omega (arith, k .1)) utf8-rows rows-fit t
 
 -- A TEXT
 -- a text that is a number of characters

@@ -6,7 +6,7 @@ use mathlib.Core.List.{List}
 use Prim.Native.Nat.{ℕ, _≤_, _<_}
 use lib.Dec.{ltb}
 use lib.ListN.{length, getD, drop}
-use Rattle.definition.specs.Text.{Text, Row, row, rows, second, by-row}
+use Rattle.definition.specs.Text.{Text, Utf8Row, utf8-row, utf8-rows, second, by-row}
 use Rattle.utf8.specs.declared.RowFound.{RowFound}
 use Rattle.utf8.specs.declared.RowFound.the-variants as RowFound
 use Rattle.utf8.specs.declared.Behind.{Behind}
@@ -15,17 +15,17 @@ use Rattle.utf8.specs.declared.IllFormed.{IllFormed}
 use Rattle.utf8.specs.declared.IllFormed.the-variants as IllFormed
 
 -- row i of a table; past its end, a row of zeros
-abbrev pub row-at : List Row → ℕ → Row
-row-at rs i = getD rs i (row 0 0 0 0 0)
+abbrev pub row-at : List Utf8Row → ℕ → Utf8Row
+row-at rs i = getD rs i (utf8-row 0 0 0 0 0)
 
 -- b is a first byte of row i, and of no row before it
 pub record Begins (b i : ℕ) : Type 0 where
   pub below : i < 8
-  pub is : (t : Text) → by-row b rows t ≡ second (row-at rows i) t
+  pub is : (t : Text) → by-row b utf8-rows t ≡ second (row-at utf8-rows i) t
 
 abbrev pub RowIs : ℕ → RowFound → Type 0
 RowIs b (RowFound.Row i) = Begins b i
-RowIs b RowFound.Nothing = (t : Text) → by-row b rows t ≡ none
+RowIs b RowFound.Nothing = (t : Text) → by-row b utf8-rows t ≡ none
 
 -- the outcome is the text from next on, which lies at `least` or later
 pub record Follows (out : Option Text) (text : Text) (least next : ℕ) : Type 0 where

@@ -3,8 +3,9 @@ ghost use mathlib.Core.Path.{_≡_};
 ghost use mathlib.Core.Bool.{true};
 ghost use Prim.Native.Nat.{_+_, _-_, _≤_, _<_};
 ghost use lib.ListN.{length, getD, take, drop};
+ghost use Rattle.definition.specs.Base as Base;
 ghost use Rattle.definition.specs.Text as Text;
-ghost use Rattle.definition.specs.Text.{rows};
+ghost use Rattle.definition.specs.Text.{utf8-rows};
 ghost use Rattle.text.specs.Each.{Each};
 ghost use Rattle.utf8.specs.Utf8.{below-80, RowIs, Passed, Placed, row-at};
 
@@ -40,7 +41,7 @@ const MORE: [usize; 8] = [0, 1, 1, 1, 1, 2, 2, 2];
 
 // Whether b lies between low and high, both included.
 fn between(low: u8, high: u8, b: u8) -> bool
-    ensures { λ r. ⌜ r ≡ Text.between low high b ⌝ }
+    ensures { λ r. ⌜ r ≡ Base.between low high b ⌝ }
 {
     if b < low {
         return false;
@@ -51,7 +52,7 @@ fn between(low: u8, high: u8, b: u8) -> bool
 // Whether b is a first byte of row i.
 fn begins(b: u8, i: usize) -> bool
     requires { ⌜ i < 8 ⌝ }
-    ensures { λ r. ⌜ r ≡ Text.between (row-at rows i .first) (row-at rows i .last) b ⌝ }
+    ensures { λ r. ⌜ r ≡ Base.between (row-at utf8-rows i .first) (row-at utf8-rows i .last) b ⌝ }
 {
     between(FIRST[i], LAST[i], b)
 }
@@ -59,7 +60,7 @@ fn begins(b: u8, i: usize) -> bool
 // Whether b is a second byte of row i.
 fn continues(b: u8, i: usize) -> bool
     requires { ⌜ i < 8 ⌝ }
-    ensures { λ r. ⌜ r ≡ Text.between (row-at rows i .low) (row-at rows i .high) b ⌝ }
+    ensures { λ r. ⌜ r ≡ Base.between (row-at utf8-rows i .low) (row-at utf8-rows i .high) b ⌝ }
 {
     between(LOW[i], HIGH[i], b)
 }
@@ -67,7 +68,7 @@ fn continues(b: u8, i: usize) -> bool
 // How many bytes follow the second of row i.
 fn more(i: usize) -> usize
     requires { ⌜ i < 8 ⌝ }
-    ensures { λ r. ⌜ r ≡ row-at rows i .more ⌝ }
+    ensures { λ r. ⌜ r ≡ row-at utf8-rows i .more ⌝ }
 {
     MORE[i]
 }
@@ -109,7 +110,7 @@ fn tails(text: &[u8], from: usize, n: usize) -> Behind
 // The place behind the bytes after the first, by row i.
 fn second(text: &[u8], at: usize, i: usize) -> Behind
     requires { ⌜ i < 8 ⌝ }
-    ensures { λ r. ⌜ Passed (Text.second (row-at rows i) (drop at (now (text .entry)))) (now (text .entry)) at r ⌝ }
+    ensures { λ r. ⌜ Passed (Text.second (row-at utf8-rows i) (drop at (now (text .entry)))) (now (text .entry)) at r ⌝ }
 {
     if text.len() <= at {
         return Behind::Broken;
@@ -188,7 +189,7 @@ pub fn ill_formed(text: &[u8]) -> IllFormed
 
 // Whether b is a byte of 80 to BF: those of a character behind its first are such, and its first is not.
 fn is_tail(b: u8) -> bool
-    ensures { λ r. ⌜ r ≡ Text.between 0x80 0xBF b ⌝ }
+    ensures { λ r. ⌜ r ≡ Base.between 0x80 0xBF b ⌝ }
 {
     (0x80 <= b) & (b <= 0xBF)
 }

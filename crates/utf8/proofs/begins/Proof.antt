@@ -1,7 +1,7 @@
 -- `utf8::begins` meets its contract. Assumes nothing.
 use mathlib.Core.Path.{_∙_}
 use borrow.Author.Needs.{needs}
-use Rattle.definition.specs.Text.{Row, rows}
+use Rattle.definition.specs.Text.{Utf8Row, utf8-rows}
 use Rattle.utf8.proofs.Characters.{column-at, between-is}
 use Rattle.utf8.proofs.begins.Statement.{statement}
 use Rattle.utf8.proofs.begins.Tie as tie
@@ -16,9 +16,9 @@ between-requires : tie.Need-between-requires
 between-requires c κs = search needs
 
 returns : tie.Need-returns
-unfolding rows
+unfolding utf8-rows
 returns c =
-    c .between .ensures ∙ between-is (c .before .args .b) (column-at (λ (r : Row). r .first) (c .before .args .i)) (column-at (λ (r : Row). r .last) (c .before .args .i))
+    c .between .ensures ∙ between-is (c .before .args .b) (column-at (λ (r : Utf8Row). r .first) (c .before .args .i)) (column-at (λ (r : Utf8Row). r .last) (c .before .args .i))
 
 pub begins-spec : {M : Type 1} → statement M
 begins-spec = tie.close (tie.spec array-read-between array-read-between-2 between-requires returns)
