@@ -1,35 +1,55 @@
 -- Demand 3 as a test: whether the answers of reading and check agree. Assumes nothing.
 use mathlib.Core.Bool.{Bool, true, false, _&&_}
+use mathlib.Core.List.{List}
 use Prim.Native.Nat.{ℕ}
-use lib.Dec.{eqb}
+use lib.Dec.{eqb, leb}
+use lib.ListN.{length}
 use Rattle.definition.specs.Base.{if_then_else_, same}
 use Rattle.definition.specs.Text.{Text}
 use Rattle.definition.specs.Calls as Calls
-use Rattle.definition.specs.Reading.{demangle, demangle-type, demangle-stopped, demangle-type-stopped}
+use Rattle.definition.specs.Calls.{refusal}
+use Rattle.definition.specs.Alike.{with-text}
+use Rattle.definition.specs.Reading.{read, read-type, demangle, demangle-type, demangle-stopped, demangle-type-stopped}
 use Rattle.definition.specs.Check.{shape, shape-type, shape-stopped, shape-type-stopped}
 
--- the same number at the same place
-abbrev pub same-end : Calls.Values → Calls.Values → Bool
-same-end a b = eqb (a .number) (b .number) && eqb (a .place) (b .place)
-
-abbrev pub same-counts : Calls.Values → Calls.Values → Bool
-same-counts a b = eqb (a .steps) (b .steps) && (eqb (a .total) (b .total) && eqb (a .wraps) (b .wraps))
-
+-- all six values
 abbrev pub same-values : Calls.Values → Calls.Values → Bool
-same-values a b = same-end a b && (same-counts a b && eqb (a .length) (b .length))
+same-values a b =
+    eqb (a .number) (b .number) && eqb (a .place) (b .place) && eqb (a .steps) (b .steps) && eqb (a .total) (b .total) && eqb (a .wraps) (b .wraps) && eqb (a .length) (b .length)
 
--- Whole calls. Where the check refuses, the reading does so with the same number and place; where it accepts, the reading accepts with the same
--- counts, or is refused by 12 at 0
-abbrev pub whole-agree : (reading check : Calls.Values) → Bool
-whole-agree reading check =
-    if eqb (check .number) 0 then (if eqb (reading .number) 12 then eqb (reading .place) 0 else (eqb (reading .number) 0 && same-counts reading check)) else same-end reading check
+-- all values, and what is written, number by number. Of stopped calls demand 3 says this
+abbrev pub same-answer : Calls.Answer → Calls.Answer → Bool
+same-answer a b = same-values (a .values) (b .values) && same (a .written) (b .written)
 
--- Stopped calls: all values, and what is written, number by number
-abbrev pub stopped-agree : (reading check : Calls.Answer) → Bool
-stopped-agree reading check = same-values (reading .values) (check .values) && same (reading .written) (check .written)
+-- WHOLE CALLS
+-- What demand 3 says that the reading answers where the check answers c, the definition reads
+-- `text` and the output slice has `out` bytes: the check's own answer where it refuses; where it
+-- accepts, the text with the check's counts, or 12 exactly where the text is longer than the output
+abbrev pub due : (out : ℕ) → List ℕ → Calls.Answer → Calls.Answer
+due out text c = if eqb (c .values .number) 0 then (if leb (length text) out then with-text text c else refusal 12 0) else c
 
--- All eight calls on one text, with one ceiling and one k: how many numbers of workspace each has, how long the output slice of the whole reading is,
--- and how long those of the stopped calls are
+-- `WholeAlike` of the definition as a test (proofs/Compared: `agree-alike`, `alike-agree`)
+abbrev pub whole-agree : (out : ℕ) → List ℕ → (reading check : Calls.Answer) → Bool
+whole-agree out text reading check = same-answer reading (due out text check)
+
+-- BY THE VALUES ALONE
+-- these values, with that length
+abbrev pub with-length : ℕ → Calls.Values → Calls.Values
+with-length n v = record { number = v .number; place = v .place; steps = v .steps; total = v .total; wraps = v .wraps; length = n }
+
+-- Values do not say how long a text is that exceeds the output: of an accepted reading its own
+-- length is taken, and a reading that refuses what the check accepts must be refused by 12, at 0,
+-- with zero counts and length 0. With the reading's text this decides what `whole-agree` does
+-- (crates/alike/proofs/Judging: `values-decide`)
+abbrev pub values-due : (reading check : Calls.Values) → Calls.Values
+values-due reading check =
+    if eqb (check .number) 0 then (if eqb (reading .number) 0 then with-length (reading .length) check else refusal 12 0 .values) else check
+
+abbrev pub values-agree : (reading check : Calls.Values) → Bool
+values-agree reading check = same-values reading (values-due reading check)
+
+-- ALL EIGHT CALLS on one text, with one ceiling and one k: how many numbers of workspace each has,
+-- how long the output slice of the whole reading is, and how long those of the stopped calls are
 abbrev pub judged : Text → (N k reading-workspace check-workspace out reading-stack check-stack : ℕ) → Bool
 judged t N k w w′ out s s′ =
-    whole-agree (demangle t N w out .values) (shape t N w′ .values) && (whole-agree (demangle-type t N w out .values) (shape-type t N w′ .values) && (stopped-agree (demangle-stopped t N k w s) (shape-stopped t N k w′ s′) && stopped-agree (demangle-type-stopped t N k w s) (shape-type-stopped t N k w′ s′)))
+    whole-agree out (read t N w .written) (demangle t N w out) (shape t N w′) && whole-agree out (read-type t N w .written) (demangle-type t N w out) (shape-type t N w′) && same-answer (demangle-stopped t N k w s) (shape-stopped t N k w′ s′) && same-answer (demangle-type-stopped t N k w s) (shape-type-stopped t N k w′ s′)

@@ -6,43 +6,51 @@ ghost use lib.ListN.{length, take};
 ghost use Rattle.definition.specs.Base.{same};
 ghost use Rattle.definition.specs.Enums as Enums;
 ghost use Rattle.values.specs.Six.{meant};
-ghost use Rattle.agreement.specs.Agreement.{same-end, same-counts, same-values, whole-agree};
+ghost use Rattle.agreement.specs.Agreement.{same-values, values-due, values-agree};
 use definition::Answer;
+use definition::Refusal;
 use values::Values;
+use values::number;
 use values::values_of;
 
-// The same number at the same place.
-fn same_end(a: Values, b: Values) -> bool
-    ensures { λ r. ⌜ r ≡ same-end (meant a) (meant b) ⌝ }
-{
-    if a.number != b.number {
-        return false;
-    }
-    a.place == b.place
-}
-
-fn same_counts(a: Values, b: Values) -> bool
-    ensures { λ r. ⌜ r ≡ same-counts (meant a) (meant b) ⌝ }
-{
-    if a.steps != b.steps {
-        return false;
-    }
-    if a.total != b.total {
-        return false;
-    }
-    a.wraps == b.wraps
-}
-
+// All six values.
 fn same_values(a: Values, b: Values) -> bool
     ensures { λ r. ⌜ r ≡ same-values (meant a) (meant b) ⌝ }
 {
-    if !same_end(a, b) {
-        return false;
+    (a.number == b.number)
+        & (a.place == b.place)
+        & (a.steps == b.steps)
+        & (a.total == b.total)
+        & (a.wraps == b.wraps)
+        & (a.length == b.length)
+}
+
+// What a whole reading must answer beside this check. Where both accept, the length is the
+// reading's own; a reading that refuses what the check accepts must be refused by 12, at 0.
+fn values_due(reading: Values, check: Values) -> Values
+    ensures { λ r. ⌜ meant r ≡ values-due (meant reading) (meant check) ⌝ }
+{
+    if check.number != 0 {
+        return check;
     }
-    if !same_counts(a, b) {
-        return false;
+    if reading.number != 0 {
+        return Values {
+            number: number(Refusal::Output),
+            place: 0,
+            steps: 0,
+            total: 0,
+            wraps: 0,
+            length: 0,
+        };
     }
-    a.length == b.length
+    Values {
+        number: check.number,
+        place: check.place,
+        steps: check.steps,
+        total: check.total,
+        wraps: check.wraps,
+        length: reading.length,
+    }
 }
 
 // The first n numbers of both.
@@ -60,22 +68,14 @@ fn same_numbers(a: &[u32], b: &[u32], n: usize) -> bool
     true
 }
 
-// Whole calls: the same refusal at the same place; or the same counts, where the reading may still have too small an output slice.
+// Whole calls, by their values alone: the text that was written is not compared here.
 pub fn whole_agrees(reading: Answer, check: Answer) -> bool
-    ensures { λ r. ⌜ r ≡ whole-agree (Enums.values reading) (Enums.values check) ⌝ }
+    ensures { λ r. ⌜ r ≡ values-agree (Enums.values reading) (Enums.values check) ⌝ }
 {
     let a = values_of(reading);
     let b = values_of(check);
-    if b.number != 0 {
-        return same_end(a, b);
-    }
-    if a.number == 12 {
-        return a.place == 0;
-    }
-    if a.number != 0 {
-        return false;
-    }
-    same_counts(a, b)
+    let due = values_due(a, b);
+    same_values(a, due)
 }
 
 // Stopped calls: all values, and the numbers that they wrote.

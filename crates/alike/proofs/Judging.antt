@@ -1,49 +1,170 @@
--- What stopped calls wrote, and that all agree. Assumes nothing.
+-- That two calls on one text agree, what they leave, and that all eight do. Assumes nothing.
 use mathlib.Core.Path.{_≡_, refl, sym, ap, ap₂, subst, _∙_}
 use mathlib.Core.Bool.{Bool, true, false, not, _&&_}
-use mathlib.Core.List.{List}
+use mathlib.Core.List.{List, [], _∷_}
 use Prim.Native.Nat.{ℕ, _≤_}
 use native.Mathlib.Omega.{arith}
-use lib.Dec.{T, eqb, leb, eqb→eq, eqb-refl, leb→le, nleb→lt}
+use borrow.Author.Tests.{ne-eqb}
+use lib.Dec.{T, eqb, leb, eqb→eq, leb→le, nleb→lt}
 use lib.ListN.{length, take, length-take}
 use Rattle.definition.specs.Base.{if_then_else_, same}
 use Rattle.definition.specs.Text.{Text}
 use Rattle.definition.specs.Calls as Calls
-use Rattle.definition.specs.Calls.{refusal}
+use Rattle.definition.specs.Calls.{refusal, within, reading-needs, check-needs}
 use Rattle.definition.specs.Reading as Reading
 use Rattle.definition.specs.Check as Check
-use Rattle.definition.specs.Alike.{enough, with-text, WholeAlike}
+use Rattle.definition.specs.Alike.{enough, with-text}
 use Rattle.definition.specs.Enums.{values}
 use Rattle.definition.specs.declared.Answer.{Answer}
-use Rattle.definition.proofs.SameText.{passed, same-refl}
+use Rattle.definition.proofs.SameText.{passed, both, same-refl}
 use Rattle.definition.proofs.JudgingAlike.{judging-alike}
 use Rattle.endings.specs.Answers.{Answers}
-use Rattle.agreement.specs.Agreement.{same-end, same-counts, same-values, whole-agree, stopped-agree, judged}
-use Rattle.agreement.proofs.Compared.{one-length}
-use Rattle.endings.proofs.Users.{Wrote, wrote, symbol-read-k-plain, type-read-k-plain, symbol-check-k-plain, type-check-k-plain}
+use Rattle.endings.specs.Calls.{early, Scratch}
+use Rattle.endings.proofs.Runs.{Plain}
+use Rattle.endings.proofs.Users.{Wrote, wrote, symbol-read-plain, type-read-plain, symbol-shape-plain, type-shape-plain, symbol-read-k-plain, type-read-k-plain, symbol-check-k-plain, type-check-k-plain}
+use Rattle.agreement.specs.Agreement.{same-values, same-answer, due, whole-agree, with-length, values-due, values-agree, judged}
+use Rattle.agreement.proofs.Compared.{values-equal, one-length, equal-answers, due-refused, due-accepted, due-too-long, alike-agree, values-due-accepted}
+use Rattle.alike.specs.Exits.{put, Whole, Stopped, all-early, Lent, slices, type-reading, stopped-type-reading, stopped-type-check, Judges}
+
+-- WHOLE CALLS
+module _ (out : ℕ) (a : Calls.Answer) where
+  within-fits : leb (length (a .written)) out ≡ true → within out a ≡ a
+  unfolding within
+  within-fits e = rw e refl
+
+  within-past : leb (length (a .written)) out ≡ false → within out a ≡ refusal 12 0
+  unfolding within
+  within-past e = rw e refl
+
+  -- a refused call writes nothing, 12 included
+  within-silent : Plain a → T (not (eqb (within out a .values .number) 0)) → within out a .written ≡ []
+  unfolding within refusal
+  within-silent h = go (leb (length (a .written)) out)
+    where
+      go : (b : Bool) → T (not (eqb ((if b then a else refusal 12 0) .values .number) 0)) → (if b then a else refusal 12 0) .written ≡ []
+      go true k = h .silent k
+      go false k = refl
+
+-- a test that implies the next one
+implied : (a b : Bool) → (a ≡ true → b ≡ true) → a ≡ (a && b)
+implied true b h = sym (h refl)
+implied false b h = refl
+
+-- The values decide what the whole answers do: the length of the text that an accepted reading
+-- writes is the one that it says, and 12 is its answer exactly where the text is longer than the
+-- output
+module _ (out : ℕ) (a c : Calls.Answer) (h : Plain a) (k : Plain c) where
+  abbrev Decides : (reading due : Calls.Answer) → Type 0
+  Decides r d = values-agree (r .values) (c .values) ≡ same-answer r d
+
+  both-refuse : (r : Calls.Answer) → (T (not (eqb (r .values .number) 0)) → r .written ≡ []) → eqb (c .values .number) 0 ≡ false → Decides r c
+  both-refuse r silent e =
+      let late : T (not (eqb (c .values .number) 0)) = subst (λ (z : Bool). T (not z)) (sym e) tt in
+      let due : values-due (r .values) (c .values) ≡ c .values = rw e refl in
+      let nothing : same-values (r .values) (c .values) ≡ true → same (r .written) (c .written) ≡ true =
+      λ q.
+      let v : r .values ≡ c .values = values-equal (r .values) (c .values) (subst T (sym q) tt) in
+      ap₂ {C = Bool} same (silent (subst (λ (x : Calls.Values). T (not (eqb (x .number) 0))) (sym v) late)) (k .silent late)
+      in
+      ap (same-values (r .values)) due ∙ implied (same-values (r .values) (c .values)) (same (r .written) (c .written)) nothing
+
+  fits : (b : Bool) → eqb (a .values .number) 0 ≡ b → c .values .number ≡ 0 → Decides a (with-text (a .written) c)
+  unfolding refusal
+  fits true e z =
+      let due : values-due (a .values) (c .values) ≡ with-text (a .written) c .values =
+      sym (values-due-accepted (a .values) (c .values) z (eqb→eq (a .values .number) 0 (subst T (sym e) tt))) ∙ ap (λ (n : ℕ). with-length n (c .values)) (h .long)
+      in
+      ap (same-values (a .values)) due ∙ implied (same-values (a .values) (with-text (a .written) c .values)) (same (a .written) (a .written)) (λ _. passed (same (a .written) (a .written)) (same-refl (a .written)))
+  fits false e z = let low = h .below in rw (z, e, ne-eqb (a .values .number) 12 (λ q. omega (arith, low, q))) refl
+
+  too-long : eqb (c .values .number) 0 ≡ true → Decides (refusal 12 0) (refusal 12 0)
+  unfolding refusal
+  too-long e = rw e refl
+
+  pub values-decide : values-agree (within out a .values) (c .values) ≡ whole-agree out (a .written) (within out a) c
+  values-decide = go (eqb (c .values .number) 0) refl (leb (length (a .written)) out) refl
+    where
+      at : (r d : Calls.Answer) → within out a ≡ r → due out (a .written) c ≡ d → Decides r d → Decides (within out a) (due out (a .written) c)
+      at r d e f q = ap (λ (x : Calls.Answer). values-agree (x .values) (c .values)) e ∙ q ∙ sym (ap₂ {C = Bool} same-answer e f)
+
+      go : (b : Bool) → eqb (c .values .number) 0 ≡ b → (l : Bool) → leb (length (a .written)) out ≡ l → Decides (within out a) (due out (a .written) c)
+      go false e l q =
+          let x : T (not (eqb (c .values .number) 0)) = subst (λ (z : Bool). T (not z)) (sym e) tt in
+          at (within out a) c refl (due-refused out (a .written) c x) (both-refuse (within out a) (within-silent out a h) e)
+      go true e true q =
+          let x : T (eqb (c .values .number) 0) = subst T (sym e) tt in
+          let y = leb→le (length (a .written)) out (subst T (sym q) tt) in
+          at a (with-text (a .written) c) (within-fits out a q) (due-accepted out (a .written) c x y) (fits (eqb (a .values .number) 0) refl (eqb→eq (c .values .number) 0 x))
+      go true e false q =
+          let x : T (eqb (c .values .number) 0) = subst T (sym e) tt in
+          let y = nleb→lt (length (a .written)) out (subst (λ (z : Bool). T (not z)) (sym q) tt) in
+          at (refusal 12 0) (refusal 12 0) (within-past out a q) (due-too-long out (a .written) c x y) (too-long e)
+
+-- workspaces, by the definition's numbers
+scratch : {need N : ℕ} {w w′ : List ℕ} {v u : Calls.Values} → v ≡ u → Scratch need N (v .number) w w′ → Scratch need N (u .number) w w′
+scratch {need} {N} {w} {w′} e h = subst (λ (x : Calls.Values). Scratch need N (x .number) w w′) e h
+
+whole-calls : (N : ℕ) (a c : Calls.Answer) (x y : Answer) (r : Bool) {w w′ v v′ out out′ : List ℕ} → Plain a → Plain c →
+    Answers (within (length out) a) out out′ x × Scratch reading-needs N (values x .number) w w′ →
+    (values y ≡ c .values) × Scratch check-needs N (values y .number) v v′ →
+    r ≡ values-agree (values x) (values y) → Whole N (a .written) (within (length out) a) c w w′ v v′ out out′ r
+whole-calls N a c x y r {out = out} h k p q e = record {
+  answer = e ∙ ap₂ {C = Bool} values-agree (p .0 .values) (q .0) ∙ values-decide (length out) a c h k;
+  out = p .0 .written;
+  reading-workspace = scratch (p .0 .values) (p .1);
+  check-workspace = scratch (q .0) (q .1);
+}
+
+module _ (t : Text) (N : ℕ) (x y : Answer) (r : Bool) {w w′ v v′ out out′ : List ℕ} where
+  pub symbol-whole-is : Answers (Reading.demangle t N (length w) (length out)) out out′ x × Scratch reading-needs N (values x .number) w w′ →
+      (values y ≡ Check.shape t N (length v) .values) × Scratch check-needs N (values y .number) v v′ → r ≡ values-agree (values x) (values y) →
+      Whole N (Reading.read t N (length w) .written) (Reading.demangle t N (length w) (length out)) (Check.shape t N (length v)) w w′ v v′ out out′ r
+  unfolding Reading.demangle
+  symbol-whole-is = whole-calls N (Reading.read t N (length w)) (Check.shape t N (length v)) x y r (symbol-read-plain t N (length w)) (symbol-shape-plain t N (length v))
+
+  pub type-whole-is : Answers (Reading.demangle-type t N (length w) (length out)) out out′ x × Scratch reading-needs N (values x .number) w w′ →
+      (values y ≡ Check.shape-type t N (length v) .values) × Scratch check-needs N (values y .number) v v′ → r ≡ values-agree (values x) (values y) →
+      Whole N (Reading.read-type t N (length w) .written) (Reading.demangle-type t N (length w) (length out)) (Check.shape-type t N (length v)) w w′ v v′ out out′ r
+  unfolding Reading.demangle-type
+  type-whole-is = whole-calls N (Reading.read-type t N (length w)) (Check.shape-type t N (length v)) x y r (type-read-plain t N (length w)) (type-shape-plain t N (length v))
 
 -- STOPPED CALLS
 -- the numbers that were written are still within the slice
 pub still-fits : {text out out′ : List ℕ} (r : Answer) → Wrote text out out′ r → values r .length ≤ length out′
 still-fits {text} {out} {out′} r h = let m = h .long in let n = ap length (h .front) in omega (arith, m, n, length-take (values r .length) out′)
 
-module _ (A B : Calls.Answer) (x y : Answer) {s s₁ t t₁ : List ℕ} (r : Bool) where
-  pub stopped-is : Wrote (A .written) s s₁ x → values x ≡ A .values → Wrote (B .written) t t₁ y → values y ≡ B .values →
-      r ≡ (same-values (values x) (values y) && same (take (values x .length) s₁) (take (values x .length) t₁)) → r ≡ stopped-agree A B
-  stopped-is h e k f q = go (same-values (values x) (values y)) refl
+-- what the code compares: the values, and as many numbers of both stacks as the reading's length
+-- says
+abbrev Compared : (x y : Answer) (s z : List ℕ) → Bool → Type 0
+Compared x y s z r = r ≡ (same-values (values x) (values y) && same (take (values x .length) s) (take (values x .length) z))
+
+module _ (a c : Calls.Answer) (x y : Answer) (r : Bool) {s s′ z z′ : List ℕ} where
+  answer-is : Wrote (a .written) s s′ x → values x ≡ a .values → Wrote (c .written) z z′ y → values y ≡ c .values → Compared x y s′ z′ r → r ≡ same-answer a c
+  answer-is h e k f q = go (same-values (values x) (values y)) refl
     where
-      alike : same-values (values x) (values y) ≡ same-values (A .values) (B .values)
+      alike : same-values (values x) (values y) ≡ same-values (a .values) (c .values)
       alike = ap₂ {C = Bool} same-values e f
 
-      go : (z : Bool) → same-values (values x) (values y) ≡ z → r ≡ stopped-agree A B
+      go : (b : Bool) → same-values (values x) (values y) ≡ b → r ≡ same-answer a c
       go false g =
-          let l : same-values (A .values) (B .values) ≡ false = sym alike ∙ g in
-          q ∙ ap (λ (b : Bool). b && same (take (values x .length) s₁) (take (values x .length) t₁)) g ∙ rw l refl
+          let l : same-values (a .values) (c .values) ≡ false = sym alike ∙ g in
+          q ∙ ap (λ (b : Bool). b && same (take (values x .length) s′) (take (values x .length) z′)) g ∙ rw l refl
       go true g =
-          let l : same-values (A .values) (B .values) ≡ true = sym alike ∙ g in
+          let l : same-values (a .values) (c .values) ≡ true = sym alike ∙ g in
           let n : values x .length ≡ values y .length = one-length (values x) (values y) g in
-          let i : take (values x .length) t₁ ≡ B .written = ap (λ (m : ℕ). take m t₁) n ∙ k .front in
-          q ∙ ap (λ (b : Bool). b && same (take (values x .length) s₁) (take (values x .length) t₁)) g ∙ ap₂ {C = Bool} same (h .front) i ∙ rw l refl
+          let i : take (values x .length) z′ ≡ c .written = ap (λ (m : ℕ). take m z′) n ∙ k .front in
+          q ∙ ap (λ (b : Bool). b && same (take (values x .length) s′) (take (values x .length) z′)) g ∙ ap₂ {C = Bool} same (h .front) i ∙ rw l refl
+
+stopped-calls : (N : ℕ) (a c : Calls.Answer) (x y : Answer) (r : Bool) {w w′ v v′ s s′ z z′ : List ℕ} → Wrote (a .written) s s′ x → Wrote (c .written) z z′ y →
+    Answers a s s′ x × Scratch reading-needs N (values x .number) w w′ → Answers c z z′ y × Scratch check-needs N (values y .number) v v′ →
+    Compared x y s′ z′ r → Stopped N a c w w′ v v′ s s′ z z′ r
+stopped-calls N a c x y r h k p q e = record {
+  answer = answer-is a c x y r h (p .0 .values) k (q .0 .values) e;
+  reading-stack = p .0 .written;
+  check-stack = q .0 .written;
+  reading-workspace = scratch (p .0 .values) (p .1);
+  check-workspace = scratch (q .0 .values) (q .1);
+}
 
 -- what each stopped call wrote
 module _ (t : Text) (N k w : ℕ) {out out′ : List ℕ} {r : Answer} where
@@ -63,101 +184,63 @@ module _ (t : Text) (N k w : ℕ) {out out′ : List ℕ} {r : Answer} where
   unfolding Check.shape-type-stopped
   shape-type-wrote = wrote _ (type-check-k-plain t N w k)
 
--- ENOUGH WORKSPACE
-eqb-same : {m n : ℕ} → m ≡ n → eqb m n ≡ true
-eqb-same {m} {n} e = passed (eqb m n) (subst (λ (k : ℕ). T (eqb m k)) e (eqb-refl m))
+module _ (t : Text) (N k : ℕ) (x y : Answer) (r : Bool) {w w′ v v′ s s′ z z′ : List ℕ} where
+  pub symbol-stopped-is : Answers (Reading.demangle-stopped t N k (length w) (length s)) s s′ x × Scratch reading-needs N (values x .number) w w′ →
+      Answers (Check.shape-stopped t N k (length v) (length z)) z z′ y × Scratch check-needs N (values y .number) v v′ → Compared x y s′ z′ r →
+      Stopped N (Reading.demangle-stopped t N k (length w) (length s)) (Check.shape-stopped t N k (length v) (length z)) w w′ v v′ s s′ z z′ r
+  symbol-stopped-is p q e = stopped-calls N _ _ x y r (demangle-wrote t N k (length w) (p .0)) (shape-wrote t N k (length v) (q .0)) p q e
 
-module _ (r c : Calls.Values) where
-  same-end-true : r .number ≡ c .number → r .place ≡ c .place → same-end r c ≡ true
-  same-end-true n p = rw (eqb-same n, eqb-same p) refl
+  pub type-stopped-is : Answers (Reading.demangle-type-stopped t N k (length w) (length s)) s s′ x × Scratch reading-needs N (values x .number) w w′ →
+      Answers (Check.shape-type-stopped t N k (length v) (length z)) z z′ y × Scratch check-needs N (values y .number) v v′ → Compared x y s′ z′ r →
+      Stopped N (Reading.demangle-type-stopped t N k (length w) (length s)) (Check.shape-type-stopped t N k (length v) (length z)) w w′ v v′ s s′ z z′ r
+  type-stopped-is p q e = stopped-calls N _ _ x y r (demangle-type-wrote t N k (length w) (p .0)) (shape-type-wrote t N k (length v) (q .0)) p q e
 
-  same-counts-true : r .steps ≡ c .steps → r .total ≡ c .total → r .wraps ≡ c .wraps → same-counts r c ≡ true
-  same-counts-true s t w = rw (eqb-same s, eqb-same t, eqb-same w) refl
-
-same-values-true : (v : Calls.Values) → same-values v v ≡ true
-same-values-true v = rw (same-end-true v v refl refl, same-counts-true v v refl refl refl, passed (eqb (v .length) (v .length)) (eqb-refl (v .length))) refl
-
-whole-true : (out : ℕ) (text : List ℕ) (r c : Calls.Answer) → WholeAlike out text r c → whole-agree (r .values) (c .values) ≡ true
-unfolding refusal
-whole-true out text r c h = go (eqb (c .values .number) 0) refl (leb (length text) out) refl
-  where
-    go : (b : Bool) → eqb (c .values .number) 0 ≡ b → (l : Bool) → leb (length text) out ≡ l → whole-agree (r .values) (c .values) ≡ true
-    go false e l q =
-        let x : r ≡ c = h .refused (subst (λ (z : Bool). T (not z)) (sym e) tt) in
-        rw e (subst (λ (y : Calls.Answer). same-end (y .values) (c .values) ≡ true) (sym x) (same-end-true (c .values) (c .values) refl refl))
-    go true e true q =
-        let i : T (eqb (c .values .number) 0) = subst T (sym e) tt in
-        let z : c .values .number ≡ 0 = eqb→eq (c .values .number) 0 i in
-        let x : r ≡ with-text text c = h .accepted i (leb→le (length text) out (subst T (sym q) tt)) in
-        subst (λ (y : Calls.Answer). whole-agree (y .values) (c .values) ≡ true) (sym x) (rw (z, same-counts-true (with-text text c .values) (c .values) refl refl refl) refl)
-    go true e false q =
-        let i : T (eqb (c .values .number) 0) = subst T (sym e) tt in
-        let x : r ≡ refusal 12 0 = h .too-long i (nleb→lt (length text) out (subst (λ (z : Bool). T (not z)) (sym q) tt)) in
-        rw e (subst (λ (y : Calls.Answer). (if eqb (y .values .number) 12 then eqb (y .values .place) 0 else (eqb (y .values .number) 0 && same-counts (y .values) (c .values))) ≡ true) (sym x) refl)
-
-stopped-true : (r c : Calls.Answer) → r ≡ c → stopped-agree r c ≡ true
-stopped-true r c e = subst (λ (x : Calls.Answer). stopped-agree r x ≡ true) e (rw (same-values-true (r .values), passed (same (r .written) (r .written)) (same-refl (r .written))) refl)
-
+-- ALL EIGHT
 -- Judging alike: with workspaces that are enough, and stacks of one length, the test is passed
-pub judged-true : (t : Text) (N k w w′ out s s′ : ℕ) → T (enough 64 N w) → T (enough 8 N w′) → s ≡ s′ → judged t N k w w′ out s s′ ≡ true
+pub judged-true : (t : Text) (N k w w′ out s s′ : ℕ) → T (enough reading-needs N w) → T (enough check-needs N w′) → s ≡ s′ → judged t N k w w′ out s s′ ≡ true
 judged-true t N k w w′ out s s′ h h′ e =
     let a = judging-alike t N k w w′ out h h′ in
     let b = judging-alike t N k w w′ s h h′ in
     subst (λ (x : ℕ). judged t N k w w′ out s x ≡ true) e
-    (rw (whole-true out _ _ _ (a .symbol), whole-true out _ _ _ (a .type), stopped-true _ _ (b .symbol-stopped), stopped-true _ _ (b .type-stopped)) refl)
+    (rw (alike-agree out _ _ _ (a .symbol), alike-agree out _ _ _ (a .type), equal-answers _ _ (b .symbol-stopped), equal-answers _ _ (b .type-stopped)) refl)
 
--- THE WHOLE TEST
--- a call after others: its slices are as long as they were
-module _ (t : Text) (N : ℕ) {w w₁ w′ w′₁ : ℕ} (e : w₁ ≡ w) (e′ : w′₁ ≡ w′) (r : Bool) where
-  pub type-whole-at : {out out₁ : ℕ} → out₁ ≡ out → r ≡ whole-agree (Reading.demangle-type t N w₁ out₁ .values) (Check.shape-type t N w′₁ .values) →
-      r ≡ whole-agree (Reading.demangle-type t N w out .values) (Check.shape-type t N w′ .values)
-  type-whole-at {out₁ = out₁} f h =
-      subst (λ (x : ℕ). r ≡ whole-agree (Reading.demangle-type t N w x .values) (Check.shape-type t N w′ .values)) f
-      (subst (λ (x : ℕ). r ≡ whole-agree (Reading.demangle-type t N w out₁ .values) (Check.shape-type t N x .values)) e′
-      (subst (λ (x : ℕ). r ≡ whole-agree (Reading.demangle-type t N x out₁ .values) (Check.shape-type t N w′₁ .values)) e h))
+-- a workspace that goes from call to call
+lent-first : {need N : ℕ} {w : List ℕ} → Lent need N [] w w
+lent-first = record { long = refl; past = λ i h. refl; untouched = λ h. refl }
 
-  pub symbol-stopped-at : (k s s′ : ℕ) → r ≡ stopped-agree (Reading.demangle-stopped t N k w₁ s) (Check.shape-stopped t N k w′₁ s′) →
-      r ≡ stopped-agree (Reading.demangle-stopped t N k w s) (Check.shape-stopped t N k w′ s′)
-  symbol-stopped-at k s s′ h =
-      subst (λ (x : ℕ). r ≡ stopped-agree (Reading.demangle-stopped t N k w s) (Check.shape-stopped t N k x s′)) e′
-      (subst (λ (x : ℕ). r ≡ stopped-agree (Reading.demangle-stopped t N k x s) (Check.shape-stopped t N k w′₁ s′)) e h)
+lent-then : {need N : ℕ} {more : List Calls.Answer} {w w₁ w₂ : List ℕ} (a : Calls.Answer) → Scratch need N (a .values .number) w w₁ → Lent need N more w₁ w₂ → Lent need N (a ∷ more) w w₂
+lent-then {more = more} a h k = record {
+  long = k .long ∙ h .long;
+  past = λ i q. k .past i q ∙ h .past i q;
+  untouched = λ q. let p = both (early (a .values .number)) (all-early more) q in k .untouched (p .1) ∙ h .untouched (p .0);
+}
 
-  pub type-stopped-at : (k : ℕ) {s s₁ s′ s′₁ : ℕ} → s₁ ≡ s → s′₁ ≡ s′ → r ≡ stopped-agree (Reading.demangle-type-stopped t N k w₁ s₁) (Check.shape-type-stopped t N k w′₁ s′₁) →
-      r ≡ stopped-agree (Reading.demangle-type-stopped t N k w s) (Check.shape-type-stopped t N k w′ s′)
-  type-stopped-at k {s = s} {s₁ = s₁} {s′₁ = s′₁} f f′ h =
-      subst (λ (x : ℕ). r ≡ stopped-agree (Reading.demangle-type-stopped t N k w s) (Check.shape-type-stopped t N k w′ x)) f′
-      (subst (λ (x : ℕ). r ≡ stopped-agree (Reading.demangle-type-stopped t N k w x) (Check.shape-type-stopped t N k w′ s′₁)) f
-      (subst (λ (x : ℕ). r ≡ stopped-agree (Reading.demangle-type-stopped t N k w s₁) (Check.shape-type-stopped t N k x s′₁)) e′
-      (subst (λ (x : ℕ). r ≡ stopped-agree (Reading.demangle-type-stopped t N k x s₁) (Check.shape-type-stopped t N k w′₁ s′₁)) e h)))
-
--- four tests in a row
-module _ (t : Text) (N k w w′ out s s′ : ℕ) where
-  abbrev symbols : Bool
-  symbols = whole-agree (Reading.demangle t N w out .values) (Check.shape t N w′ .values)
-
-  abbrev types : Bool
-  types = whole-agree (Reading.demangle-type t N w out .values) (Check.shape-type t N w′ .values)
-
-  abbrev stopped-symbols : Bool
-  stopped-symbols = stopped-agree (Reading.demangle-stopped t N k w s) (Check.shape-stopped t N k w′ s′)
-
-  abbrev stopped-types : Bool
-  stopped-types = stopped-agree (Reading.demangle-type-stopped t N k w s) (Check.shape-type-stopped t N k w′ s′)
-
-  abbrev Judges : Bool → Type 0
-  Judges r = (r ≡ judged t N k w w′ out s s′) × (T (enough 64 N w) → T (enough 8 N w′) → s ≡ s′ → r ≡ true)
-
-  judges : (r : Bool) → r ≡ judged t N k w w′ out s s′ → Judges r
-  judges r e = (e, λ h h′ q. e ∙ judged-true t N k w w′ out s s′ h h′ q)
-
-  pub first-fails : symbols ≡ false → Judges false
-  first-fails e = judges false (rw e refl)
-
-  pub second-fails : symbols ≡ true → types ≡ false → Judges false
-  second-fails e f = judges false (rw (e, f) refl)
-
-  pub third-fails : symbols ≡ true → types ≡ true → stopped-symbols ≡ false → Judges false
-  third-fails e f g = judges false (rw (e, f, g) refl)
-
-  pub fourth-decides : (r : Bool) → symbols ≡ true → types ≡ true → stopped-symbols ≡ true → r ≡ stopped-types → Judges r
-  fourth-decides r e f g h = judges r (h ∙ rw (e, f, g) refl)
+module _ (t : Text) (N k : ℕ) {w w₁ w₂ w₃ w₄ v v₁ v₂ v₃ v₄ out out₁ out₂ s s₁ s₂ z z₁ z₂ : List ℕ} {r₁ r₂ r₃ r₄ : Bool} where
+  -- the four pairs of calls, each on what the one before it left
+  pub judges : Whole N (Reading.read t N (length w) .written) (Reading.demangle t N (length w) (length out)) (Check.shape t N (length v)) w w₁ v v₁ out out₁ r₁ →
+      Whole N (Reading.read-type t N (length w₁) .written) (Reading.demangle-type t N (length w₁) (length out₁)) (Check.shape-type t N (length v₁)) w₁ w₂ v₁ v₂ out₁ out₂ r₂ →
+      Stopped N (Reading.demangle-stopped t N k (length w₂) (length s)) (Check.shape-stopped t N k (length v₂) (length z)) w₂ w₃ v₂ v₃ s s₁ z z₁ r₃ →
+      Stopped N (Reading.demangle-type-stopped t N k (length w₃) (length s₁)) (Check.shape-type-stopped t N k (length v₃) (length z₁)) w₃ w₄ v₃ v₄ s₁ s₂ z₁ z₂ r₄ →
+      length out₁ ≡ length out → length s₁ ≡ length s → length z₁ ≡ length z →
+      Judges t N k (slices w v out s z) (slices w₄ v₄ out₂ s₂ z₂) (r₁ && r₂ && r₃ && r₄)
+  judges a b₀ c₀ d₀ eo es ez =
+      let ew₁ = a .reading-workspace .long in
+      let ev₁ = a .check-workspace .long in
+      let ew₂ = b₀ .reading-workspace .long ∙ ew₁ in
+      let ev₂ = b₀ .check-workspace .long ∙ ev₁ in
+      let ew₃ = c₀ .reading-workspace .long ∙ ew₂ in
+      let ev₃ = c₀ .check-workspace .long ∙ ev₂ in
+      let b = rw (ew₁, ev₁, eo) at b₀ in
+      let c = rw (ew₂, ev₂) at c₀ in
+      let d = rw (ew₃, ev₃, es, ez) at d₀ in
+      let before = slices w v out s z in
+      let answer : (r₁ && r₂ && r₃ && r₄) ≡ judged t N k (length w) (length v) (length out) (length s) (length z) = rw (a .answer, rw eo at (b .answer), c .answer, d .answer) refl in
+      record {
+        answer = answer;
+        alike = λ h h′ q. answer ∙ judged-true t N k (length w) (length v) (length out) (length s) (length z) h h′ q;
+        out = b .out ∙ ap (put (type-reading t N before)) (a .out);
+        reading-stack = d .reading-stack ∙ ap (put (stopped-type-reading t N k before)) (c .reading-stack);
+        check-stack = d .check-stack ∙ ap (put (stopped-type-check t N k before)) (c .check-stack);
+        reading-workspace = lent-then _ (a .reading-workspace) (lent-then _ (b .reading-workspace) (lent-then _ (c .reading-workspace) (lent-then _ (d .reading-workspace) lent-first)));
+        check-workspace = lent-then _ (a .check-workspace) (lent-then _ (b .check-workspace) (lent-then _ (c .check-workspace) (lent-then _ (d .check-workspace) lent-first)));
+      }

@@ -1,14 +1,13 @@
-// Judging alike in code: lends its slices to reading and check, of a symbol and of a type, whole and stopped, and says whether they agree.
-ghost use mathlib.Core.Path.{_≡_};
-ghost use mathlib.Core.Bool.{true};
-ghost use lib.Dec.{T};
+// Judging alike in code: lends its slices to reading and check, of a symbol and of a type, whole
+// and stopped, and says whether they agree.
 ghost use lib.ListN.{length};
-ghost use Rattle.definition.specs.Alike.{enough};
 ghost use Rattle.definition.specs.Check as Check;
 ghost use Rattle.definition.specs.Reading as Reading;
-ghost use Rattle.agreement.specs.Agreement.{whole-agree, stopped-agree, judged};
+ghost use Rattle.alike.specs.Exits.{Whole, Stopped, Judges, slices};
 use agreement::stopped_agrees;
 use agreement::whole_agrees;
+
+// Each pair of calls: whether they agree, and what they leave in the slices.
 
 fn symbol_whole(
     text: &[u8],
@@ -17,7 +16,7 @@ fn symbol_whole(
     check_workspace: &mut [u32],
     out: &mut [u8],
 ) -> bool
-    ensures { λ r. ⌜ r ≡ whole-agree (Reading.demangle (now (text .entry)) ceiling (length (now («reading_workspace» .entry))) (length (now (out .entry))) .values) (Check.shape (now (text .entry)) ceiling (length (now («check_workspace» .entry))) .values) ⌝ }
+    ensures { λ r. ⌜ Whole ceiling (Reading.read (now (text .entry)) ceiling (length (now («reading_workspace» .entry))) .written) (Reading.demangle (now (text .entry)) ceiling (length (now («reading_workspace» .entry))) (length (now (out .entry)))) (Check.shape (now (text .entry)) ceiling (length (now («check_workspace» .entry)))) (now («reading_workspace» .entry)) (now («reading_workspace» .exit)) (now («check_workspace» .entry)) (now («check_workspace» .exit)) (now (out .entry)) (now (out .exit)) r ⌝ }
 {
     let reading = swift_demangle::demangle(text, ceiling, reading_workspace, out);
     let check = swift_shape::shape(text, ceiling, check_workspace);
@@ -31,7 +30,7 @@ fn type_whole(
     check_workspace: &mut [u32],
     out: &mut [u8],
 ) -> bool
-    ensures { λ r. ⌜ r ≡ whole-agree (Reading.demangle-type (now (text .entry)) ceiling (length (now («reading_workspace» .entry))) (length (now (out .entry))) .values) (Check.shape-type (now (text .entry)) ceiling (length (now («check_workspace» .entry))) .values) ⌝ }
+    ensures { λ r. ⌜ Whole ceiling (Reading.read-type (now (text .entry)) ceiling (length (now («reading_workspace» .entry))) .written) (Reading.demangle-type (now (text .entry)) ceiling (length (now («reading_workspace» .entry))) (length (now (out .entry)))) (Check.shape-type (now (text .entry)) ceiling (length (now («check_workspace» .entry)))) (now («reading_workspace» .entry)) (now («reading_workspace» .exit)) (now («check_workspace» .entry)) (now («check_workspace» .exit)) (now (out .entry)) (now (out .exit)) r ⌝ }
 {
     let reading = swift_demangle::demangle_type(text, ceiling, reading_workspace, out);
     let check = swift_shape::shape_type(text, ceiling, check_workspace);
@@ -47,7 +46,7 @@ fn symbol_stopped(
     reading_stack: &mut [u32],
     check_stack: &mut [u32],
 ) -> bool
-    ensures { λ r. ⌜ r ≡ stopped-agree (Reading.demangle-stopped (now (text .entry)) ceiling k (length (now («reading_workspace» .entry))) (length (now («reading_stack» .entry)))) (Check.shape-stopped (now (text .entry)) ceiling k (length (now («check_workspace» .entry))) (length (now («check_stack» .entry)))) ⌝ }
+    ensures { λ r. ⌜ Stopped ceiling (Reading.demangle-stopped (now (text .entry)) ceiling k (length (now («reading_workspace» .entry))) (length (now («reading_stack» .entry)))) (Check.shape-stopped (now (text .entry)) ceiling k (length (now («check_workspace» .entry))) (length (now («check_stack» .entry)))) (now («reading_workspace» .entry)) (now («reading_workspace» .exit)) (now («check_workspace» .entry)) (now («check_workspace» .exit)) (now («reading_stack» .entry)) (now («reading_stack» .exit)) (now («check_stack» .entry)) (now («check_stack» .exit)) r ⌝ }
 {
     let reading = swift_demangle::demangle_stopped(
         text,
@@ -69,7 +68,7 @@ fn type_stopped(
     reading_stack: &mut [u32],
     check_stack: &mut [u32],
 ) -> bool
-    ensures { λ r. ⌜ r ≡ stopped-agree (Reading.demangle-type-stopped (now (text .entry)) ceiling k (length (now («reading_workspace» .entry))) (length (now («reading_stack» .entry)))) (Check.shape-type-stopped (now (text .entry)) ceiling k (length (now («check_workspace» .entry))) (length (now («check_stack» .entry)))) ⌝ }
+    ensures { λ r. ⌜ Stopped ceiling (Reading.demangle-type-stopped (now (text .entry)) ceiling k (length (now («reading_workspace» .entry))) (length (now («reading_stack» .entry)))) (Check.shape-type-stopped (now (text .entry)) ceiling k (length (now («check_workspace» .entry))) (length (now («check_stack» .entry)))) (now («reading_workspace» .entry)) (now («reading_workspace» .exit)) (now («check_workspace» .entry)) (now («check_workspace» .exit)) (now («reading_stack» .entry)) (now («reading_stack» .exit)) (now («check_stack» .entry)) (now («check_stack» .exit)) r ⌝ }
 {
     let reading = swift_demangle::demangle_type_stopped(
         text,
@@ -82,7 +81,9 @@ fn type_stopped(
     stopped_agrees(reading, check, reading_stack, check_stack)
 }
 
-// Whether reading and check judge a text alike, as demand 3 says. With workspaces that are enough, and stacks of one length, the answer is true.
+// Whether reading and check judge a text alike, as demand 3 says. With workspaces that are enough,
+// and stacks of one length, the answer is true. All eight calls are made, whatever the first of
+// them answer.
 pub fn judged_alike(
     text: &[u8],
     ceiling: usize,
@@ -93,15 +94,11 @@ pub fn judged_alike(
     reading_stack: &mut [u32],
     check_stack: &mut [u32],
 ) -> bool
-    ensures { λ r. ⌜ (r ≡ judged (now (text .entry)) ceiling k (length (now («reading_workspace» .entry))) (length (now («check_workspace» .entry))) (length (now (out .entry))) (length (now («reading_stack» .entry))) (length (now («check_stack» .entry)))) × (T (enough 64 ceiling (length (now («reading_workspace» .entry)))) → T (enough 8 ceiling (length (now («check_workspace» .entry)))) → length (now («reading_stack» .entry)) ≡ length (now («check_stack» .entry)) → r ≡ true) ⌝ }
+    ensures { λ r. ⌜ Judges (now (text .entry)) ceiling k (slices (now («reading_workspace» .entry)) (now («check_workspace» .entry)) (now (out .entry)) (now («reading_stack» .entry)) (now («check_stack» .entry))) (slices (now («reading_workspace» .exit)) (now («check_workspace» .exit)) (now (out .exit)) (now («reading_stack» .exit)) (now («check_stack» .exit))) r ⌝ }
 {
-    if !symbol_whole(text, ceiling, reading_workspace, check_workspace, out) {
-        return false;
-    }
-    if !type_whole(text, ceiling, reading_workspace, check_workspace, out) {
-        return false;
-    }
-    if !symbol_stopped(
+    let symbols_agree = symbol_whole(text, ceiling, reading_workspace, check_workspace, out);
+    let types_agree = type_whole(text, ceiling, reading_workspace, check_workspace, out);
+    let stopped_symbols_agree = symbol_stopped(
         text,
         ceiling,
         k,
@@ -109,10 +106,8 @@ pub fn judged_alike(
         check_workspace,
         reading_stack,
         check_stack,
-    ) {
-        return false;
-    }
-    type_stopped(
+    );
+    let stopped_types_agree = type_stopped(
         text,
         ceiling,
         k,
@@ -120,5 +115,6 @@ pub fn judged_alike(
         check_workspace,
         reading_stack,
         check_stack,
-    )
+    );
+    symbols_agree & types_agree & stopped_symbols_agree & stopped_types_agree
 }

@@ -1,3 +1,4 @@
+use native.Mathlib.Omega.{arith}
 use Rattle.agreement.proofs.Compared.{is-false, is-true, stacks-differ, stacks-inside, stacks-same}
 use Rattle.values.specs.Six.{meant}
 use Rattle.definition.specs.Enums.{values}
@@ -28,7 +29,11 @@ returns c = stacks-differ (meant (c .before .before .before .values-of .result))
 
 -- src/lib.rt:92:5
 same-numbers-requires : tie.Need-same-numbers-requires
-same-numbers-requires c κs = stacks-inside (meant (c .before .before .before .values-of .result)) (meant (c .before .before .values-of2 .result)) (values (c .before .before .before .before .before .before .args .reading)) (values (c .before .before .before .before .before .before .args .check)) (c .before .before .before .values-of .ensures) (c .before .before .values-of2 .ensures) (c .before .before .before .before .before .before .args .reading-stack .now) (c .before .before .before .before .before .before .args .check-stack .now) (c .before .same-values .result) (c .before .same-values .ensures) (is-true (c .before .same-values .result) (c .if1 .left)) (c .before .before .before .before .before .before .pre .0) (c .before .before .before .before .before .before .pre .1)
+same-numbers-requires c κs =
+    let h = stacks-inside (meant (c .before .before .before .values-of .result)) (meant (c .before .before .values-of2 .result)) (values (c .before .before .before .before .before .before .args .reading)) (values (c .before .before .before .before .before .before .args .check)) (c .before .before .before .values-of .ensures) (c .before .before .values-of2 .ensures) (c .before .before .before .before .before .before .args .reading-stack .now) (c .before .before .before .before .before .before .args .check-stack .now) (c .before .same-values .result) (c .before .same-values .ensures) (is-true (c .before .same-values .result) (c .if1 .left)) (c .before .before .before .before .before .before .pre .0) (c .before .before .before .before .before .before .pre .1) in
+    let reading = h .0 in
+    let check = h .1 in
+    (omega (arith, reading, check), omega (arith, reading, check))
 
 -- src/lib.rt:82:1
 returns-2 : tie.Need-returns-2

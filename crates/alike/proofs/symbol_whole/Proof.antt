@@ -1,36 +1,28 @@
-use Rattle.agreement.proofs.Compared.{whole-is}
-use Rattle.definition.specs.Enums.{values}
+use Rattle.alike.proofs.Judging.{symbol-whole-is}
 use borrow.Author.Needs.{needs}
 use Rattle.alike.proofs.symbol_whole.Statement.{statement}
 use Rattle.alike.proofs.symbol_whole.Tie as tie
 
--- src/lib.rt:22:9
 demangle-requires : tie.Need-demangle-requires
 demangle-requires c κs = search needs
 
--- src/lib.rt:23:9
 shape-requires : tie.Need-shape-requires
 shape-requires c κs = search needs
 
--- src/lib.rt:24:5
 whole-agrees-requires : tie.Need-whole-agrees-requires
 whole-agrees-requires c κs = search needs
 
--- src/lib.rt:13:1
 same-length : tie.Need-same-length
 same-length c = search needs
 
--- src/lib.rt:13:1
 same-length-2 : tie.Need-same-length-2
 same-length-2 c = search needs
 
--- src/lib.rt:13:1
 same-length-3 : tie.Need-same-length-3
 same-length-3 c = search needs
 
--- src/lib.rt:13:1
 returns : tie.Need-returns
-returns c = whole-is (values (c .before .before .before .before .before .before .before .before .before .demangle .result)) (values (c .before .before .before .shape .result)) _ _ (c .whole-agrees .result) (c .whole-agrees .ensures) (c .before .before .before .before .before .before .before .before .before .demangle .ensures .0 .values) (c .before .before .before .shape .ensures .0)
+returns c = symbol-whole-is (c .before .before .before .before .before .before .before .before .before .before .before .before .before .before .before .before .args .text .now) (c .before .before .before .before .before .before .before .before .before .before .before .before .before .before .before .before .args .ceiling) (c .before .before .before .before .before .before .before .before .before .demangle .result) (c .before .before .before .shape .result) (c .whole-agrees .result) (c .before .before .before .before .before .before .before .before .before .demangle .ensures) (c .before .before .before .shape .ensures) (c .whole-agrees .ensures)
 
 pub symbol-whole-spec : {M : Type 1} → statement M
 symbol-whole-spec =
