@@ -1,9 +1,10 @@
 -- Document 01, "Program `names`": what the programs `names` and `shapes` answer, as bytes. Assumes nothing.
-use mathlib.Core.Bool.{true, false}
+use mathlib.Core.Path.{_≡_}
+use mathlib.Core.Bool.{Bool, true, false}
 use mathlib.Core.List.{List, [], _∷_, _++_}
-use Prim.Native.Nat.{ℕ}
+use Prim.Native.Nat.{ℕ, _<_}
 use lib.Dec.{eqb, leb}
-use lib.ListN.{length}
+use lib.ListN.{length, getD}
 use Rattle.definition.specs.Base.{decimal, if_then_else_}
 use Rattle.definition.specs.Text.{Text}
 use Rattle.definition.specs.Calls.{Values, Answer}
@@ -72,3 +73,21 @@ answers-from line begun (c ∷ t) = elim (eqb c newline) [
 
 unfoldable pub answers : (Text → List ℕ) → Text → List ℕ
 answers line t = answers-from line [] t
+
+-- THE REST OF AN INPUT
+-- no newline is in it
+abbrev pub Clear : Text → Type 0
+Clear t = (i : ℕ) → i < length t → getD t i 0 ≡ newline → ⊥
+
+-- what follows the first newline; nothing where there is none
+unfoldable pub after-line : Text → Text
+after-line [] = []
+after-line (c ∷ t) = elim (eqb c newline) [
+  | true ↦ t
+  | false ↦ after-line t
+]
+
+-- The answers that are still to be written where t is left of the input: those of t; or, where t
+-- begins inside a line that is answered already, those of what follows that line.
+unfoldable pub owed : (Text → List ℕ) → (inside : Bool) → Text → List ℕ
+owed line inside t = if inside then answers line (after-line t) else answers line t

@@ -6,6 +6,9 @@ use definition::Counts;
 use numerals::put_decimal;
 use output::put_byte;
 
+// The longest line that is read.
+pub const LINE: usize = 4096;
+
 // What is asked of each line: a symbol's text, or its shape.
 pub enum Asked {
     Name,

@@ -12,14 +12,12 @@ ghost use Rattle.lines.specs.Does.{Reads, Answered};
 use definition::Answer;
 use line_ends::line_end;
 use line_forms::Asked;
+use line_forms::LINE;
 use line_forms::put_counts;
 use line_forms::put_refusal;
 use output::put_byte;
 
 const CEILING: usize = 256;
-
-// The longest line that is read.
-const LINE: usize = 4096;
 
 // The longest text.
 const TEXT: usize = 16384;

@@ -1,12 +1,28 @@
-// Standard input to standard output. No contract can say what is read or written: what is answered is lines::answer_lines, and this crate only
-// moves bytes.
+// Standard input to standard output. `step` reads, answers and writes once. Its contract says that
+// what is written, with what is owed of the bytes that are kept, is what was owed before of all
+// that was read (`Stepped` in buffers/specs/Buffers.antt); `run-answers` (proofs/Runs.antt) says so
+// of all steps together. What a read stores, and that a write writes, is assumed of the system.
 ghost use mathlib.Core.Path.{_≡_};
+ghost use mathlib.Core.Bool.{false};
 ghost use Prim.Native.Nat.{_+_, _≤_, _<_, _^_};
 ghost use lib.ListN.{length};
-use line_ends::line_end;
+ghost use Rattle.line_forms.specs.Lines.{line-of};
+ghost use Rattle.buffers.specs.Buffers.{Turned, Holds, Stepped, stops};
+use buffers::Next;
+use buffers::Rest;
+use buffers::State;
+use buffers::Turn;
+use buffers::decided;
+use buffers::fill;
+use buffers::fresh;
+use buffers::passed;
+use buffers::rest_of;
+use buffers::stopped;
 use line_forms::Asked;
 use lines::answer_line;
 use lines::answer_lines;
+
+const STDOUT: i32 = 1;
 
 // 64 × 256 numbers.
 fn workspace() -> [u32; 16384]
@@ -21,141 +37,108 @@ fn output() -> [u8; 131072]
     [0; 131072]
 }
 
-// Reads once, behind the bytes that the buffer has; the answer is how many it has then.
-fn fill(input: &mut [u8], have: usize) -> usize
-    requires { ⌜ have ≤ length (now input) ⌝ }
-    ensures { λ r. ⌜ (have ≤ r) × (r ≤ length (now (input .exit))) ⌝ }
-{
-    let got = libc::read(0, &mut input[have..]);
-    have + io::count(got, &input[have..])
-}
-
-// Moves the bytes from one place to another to the front.
-fn keep(input: &mut [u8], from: usize, to: usize)
-    requires { ⌜ (from ≤ to) × (to ≤ length (now input)) ⌝ }
-{
-    let n = to - from;
-    let mut i = 0;
-    while i < n {
-        input[i] = input[from + i];
-        i += 1;
-    }
-}
-
-// Where the input goes on: how many bytes the buffer keeps, whether they stand inside a line that is answered already, and whether all is done.
-struct Buffered {
-    have: usize,
-    inside: bool,
-    done: bool,
-}
-
-// Answers a line that no newline ends in the buffer.
-fn answer_rest(asked: Asked, line: &[u8], ws: &mut [u32], out: &mut [u8]) -> bool
-    requires { ⌜ (length (now ws) ≡ 16384) × (length (now out) ≡ 131072) ⌝ }
-    ensures { λ _. ⌜ length (now (ws .exit)) ≡ 16384 ⌝ }
-{
-    let n = answer_line(asked, line, ws, out, 0);
-    io::write_all(1, &out[0..n])
-}
-
-// Answers all lines that end in the buffer from `from` on. What is left begins at `have`; it is done where a write failed.
-fn answer_whole(asked: Asked, input: &[u8], from: usize, ws: &mut [u32], out: &mut [u8]) -> Buffered
-    requires { ⌜ (length (now ws) ≡ 16384) × (length (now out) ≡ 131072) ⌝ }
-    requires { ⌜ from ≤ length (now input) ⌝ }
-    ensures { λ r. ⌜ (length (now (ws .exit)) ≡ 16384) × (r .have ≤ length (now (input .entry))) ⌝ }
-{
-    let mut at = from;
-    loop {
-        let p = answer_lines(asked, &input[at..], ws, out);
-        let n = p.written;
-        if p.read == 0 {
-            return Buffered {
-                have: at,
-                inside: false,
-                done: false,
-            };
-        }
-        at += p.read;
-        if !io::write_all(1, &out[0..n]) {
-            return Buffered {
-                have: at,
-                inside: false,
-                done: true,
-            };
-        }
-    }
-}
-
-// Answers what one more read brings.
+// Answers the lines of a text that end in a newline, while there is room. Where the text has no
+// newline, it is answered if it is the last line or too long; otherwise more is read first.
+// `inside`: the text begins inside a line that is answered already. `ended`: nothing follows the
+// text.
 fn turn(
     asked: Asked,
-    input: &mut [u8],
-    before: Buffered,
+    text: &[u8],
+    inside: bool,
+    ended: bool,
     ws: &mut [u32],
     out: &mut [u8],
-) -> Buffered
+) -> Turn
     requires { ⌜ (length (now ws) ≡ 16384) × (length (now out) ≡ 131072) ⌝ }
-    requires { ⌜ before .have ≤ length (now input) ⌝ }
-    ensures { λ r. ⌜ (length (now (ws .exit)) ≡ 16384) × (r .have ≤ length (now (input .exit))) ⌝ }
+    ensures { λ r. ⌜ Turned (line-of asked) (now (text .entry)) inside ended (now (out .exit)) r × (length (now (ws .exit)) ≡ 16384) ⌝ }
 {
-    let have = before.have;
-    let end = fill(input, have);
-    if end == have {
-        if 0 < have {
-            answer_rest(asked, &input[0..have], ws, out);
-        }
-        return Buffered {
-            have: 0,
+    if inside {
+        return passed(text, ended);
+    }
+    let p = answer_lines(asked, text, ws, out);
+    if 0 < p.read {
+        return Turn {
+            read: p.read,
+            written: p.written,
             inside: false,
-            done: true,
+            next: Next::Answer,
         };
     }
-    let mut from = 0;
-    if before.inside {
-        from = line_end(&input[0..end], 0);
-        if from == end {
-            return Buffered {
-                have: 0,
-                inside: true,
-                done: false,
-            };
+    match rest_of(text, ended) {
+        Rest::Last => {
+            let n = answer_line(asked, text, ws, out, 0);
+            Turn {
+                read: text.len(),
+                written: n,
+                inside: false,
+                next: Next::Done,
+            }
         }
-        from += 1;
-    }
-    let left = answer_whole(asked, &input[0..end], from, ws, out);
-    let rest = left.have;
-    if end - rest == input.len() {
-        // longer than any line that is read: it is answered now, and passed over up to its newline
-        return Buffered {
-            have: 0,
-            inside: true,
-            done: !answer_rest(asked, &input[0..end], ws, out),
-        };
-    }
-    keep(input, rest, end);
-    Buffered {
-        have: end - rest,
-        inside: false,
-        done: left.done,
+        Rest::Long => {
+            let n = answer_line(asked, text, ws, out, 0);
+            Turn {
+                read: text.len(),
+                written: n,
+                inside: true,
+                next: Next::Read,
+            }
+        }
+        Rest::More => Turn {
+            read: 0,
+            written: 0,
+            inside: false,
+            next: Next::Read,
+        },
+        Rest::Nothing => Turn {
+            read: 0,
+            written: 0,
+            inside: false,
+            next: Next::Done,
+        },
     }
 }
 
-// Answers each line of standard input on standard output, up to the end of the input or a write that fails.
+// Reads where the state asks for it, answers and writes.
+fn step(asked: Asked, input: &mut [u8], before: State, ws: &mut [u32], out: &mut [u8]) -> State
+    requires { ⌜ (length (now ws) ≡ 16384) × (length (now out) ≡ 131072) ⌝ }
+    requires { ⌜ Holds (now input) before × (stops (before .next) ≡ false) × (length (now input) ≡ 65536) ⌝ }
+    ensures { λ r. ⌜ Stepped (line-of asked) (now (input .entry)) (now (input .exit)) (now (out .exit)) before r × (length (now (ws .exit)) ≡ 16384) ⌝ }
+{
+    let held = fill(input, before);
+    let asks = held.next;
+    let Next::Answer = asks else {
+        return held;
+    };
+    let from = held.from;
+    let end = held.end;
+    let t = turn(asked, &input[from..end], held.inside, held.ended, ws, out);
+    let n = t.written;
+    let next = t.next;
+    let wrote = io::write_all(STDOUT, &out[0..n]);
+    State {
+        from: from + t.read,
+        end,
+        inside: t.inside,
+        ended: held.ended,
+        written: n,
+        next: decided(wrote, next),
+    }
+}
+
+// Answers each line of standard input on standard output. At a read or a write that fails it stops
+// with a message on standard error.
 pub fn answer_input(asked: Asked) {
     let mut ws = workspace();
     let mut input = io::large_buffer();
     let mut out = output();
-    let mut held = Buffered {
-        have: 0,
-        inside: false,
-        done: false,
-    };
-    let mut turns: u64 = 18446744073709551615;
-    while 0 < turns {
-        held = turn(asked, &mut input, held, &mut ws, &mut out);
-        if held.done {
+    let mut state = fresh();
+    let mut steps: u64 = 18446744073709551615;
+    while 0 < steps {
+        state = step(asked, &mut input, state, &mut ws, &mut out);
+        let next = state.next;
+        if stopped(next) {
             return;
         }
-        turns -= 1;
+        steps -= 1;
     }
 }
