@@ -6,6 +6,7 @@ use Prim.Native.Nat.{ℕ, suc, _+_, _^_, _≤_, _<_}
 use lib.ListN.{length, drop}
 use Rattle.definition.specs.Base.{if_then_else_, Out, ok, refused, is, and-then, ret}
 use Rattle.definition.specs.Text.{Text, Lex, next-if, index-plus-one}
+use Rattle.definition.specs.Budget.{most-wraps}
 use Rattle.definition.specs.Operators.{counts}
 use Rattle.definition.specs.Enums.{number}
 use Rattle.definition.specs.declared.Refusal.{Refusal}
@@ -93,5 +94,5 @@ pub record Counting (text : Text) (from at params left : ℕ) : Type 0 where
   pub small : params < 2 ^ 64
   pub inside : at ≤ length text
   pub onward : from ≤ at
-  pub few : left ≤ 256
-  pub same : counts 256 0 (drop from text) ≡ counts left params (drop at text)
+  pub few : left ≤ most-wraps
+  pub same : counts most-wraps 0 (drop from text) ≡ counts left params (drop at text)

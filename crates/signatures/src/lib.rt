@@ -1,11 +1,10 @@
 // `r`: the counts of a generic signature.
 ghost use Prim.Native.Nat.{_≤_, _<_};
 ghost use lib.ListN.{length, drop};
-ghost use Rattle.definition.specs.Text as Text;
-ghost use Rattle.text.specs.Cursor.{Numbered};
 ghost use Rattle.signatures.specs.Counts.{signature-letters, count, Turned};
 ghost use Rattle.definition.specs.declared.Operator.the-variants as Operator;
 ghost use Rattle.letters.specs.Answers.{Operated};
+use budget::Budget;
 use definition::Operator;
 use definition::Refusal;
 use letters::OperatorRead;
@@ -17,14 +16,6 @@ pub enum CountRead {
     Closed(Cursor),
     Count(usize, Cursor),
     Refused(Refusal),
-}
-
-// A count: an index and 1.
-fn count_index(text: &[u8], c: Cursor) -> Number
-    requires { ⌜ c .at ≤ length (now text) ⌝ }
-    ensures { λ r. ⌜ Numbered (Text.index-plus-one (drop (c .at) (now (text .entry)))) (now (text .entry)) (c .at) r ⌝ }
-{
-    text::index_plus_one(text, c)
 }
 
 fn one_count(text: &[u8], c: Cursor) -> CountRead
@@ -43,7 +34,7 @@ fn one_count(text: &[u8], c: Cursor) -> CountRead
     if none {
         return CountRead::Count(0, after);
     }
-    match count_index(text, after) {
+    match text::index_plus_one(text, after) {
         Number::Read(n, stop) => CountRead::Count(n, stop),
         Number::Refused(f) => CountRead::Refused(f),
     }
@@ -55,7 +46,7 @@ pub fn generic_signature(text: &[u8], c: Cursor) -> OperatorRead
 {
     let mut at = c.at;
     let mut params = 0;
-    let mut left: usize = 256;
+    let mut left = Budget::MOST_WRAPS;
     while 0 < left {
         match one_count(text, Cursor { at }) {
             CountRead::Closed(next) => {

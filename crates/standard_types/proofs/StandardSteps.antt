@@ -8,6 +8,7 @@ use borrow.Author.Tests.{lt-ltb, le-leb, lt-leb, eq-eqb, ne-eqb}
 use lib.Dec.{ltb, leb}
 use Rattle.definition.specs.Base.{ok, refused, digit, pick, and-then}
 use Rattle.definition.specs.Text.{Text, next, natural, peek}
+use Rattle.definition.specs.Budget.{most-steps}
 use Rattle.definition.specs.Operators.{optional, standard, module-named, standard-letter, standard-letters, standard-modules}
 use Rattle.standard_types.specs.Standard.{standard-type-letter, repeated}
 
@@ -27,16 +28,16 @@ module _ (repeat b : ℕ) (t : Text) where
     standard-other e = rw (standard-letter, ne-eqb b 103 n, e)
 
 module _ (n : ℕ) (t : Text) where
-  in-limits : 0 < n → n ≤ 4096 → (ltb 0 n && leb n 4096) ≡ true
-  in-limits h k = rw (lt-ltb 0 n h, le-leb n 4096 k)
+  in-limits : 0 < n → n ≤ most-steps → (ltb 0 n && leb n most-steps) ≡ true
+  in-limits h k = rw (lt-ltb 0 n h, le-leb n most-steps k)
 
   pub repeated-zero : n ≡ 0 → repeated n t ≡ refused 9
   repeated-zero e = ap (λ (k : ℕ). repeated k t) e
 
-  pub repeated-large : 4096 < n → repeated n t ≡ refused 9
-  repeated-large h = let e : (ltb 0 n && leb n 4096) ≡ false = rw (lt-leb n 4096 h) (and-false (ltb 0 n)) in rw e
+  pub repeated-large : most-steps < n → repeated n t ≡ refused 9
+  repeated-large h = let e : (ltb 0 n && leb n most-steps) ≡ false = rw (lt-leb n most-steps h) (and-false (ltb 0 n)) in rw e
 
-  module _ (h : 0 < n) (k : n ≤ 4096) where
+  module _ (h : 0 < n) (k : n ≤ most-steps) where
     pub repeated-read : {b : ℕ} {u : Text} → next t ≡ ok b u → repeated n t ≡ standard-letter n b u
     repeated-read e = rw (in-limits h k, e)
 

@@ -8,6 +8,7 @@ ghost use Rattle.definition.specs.Enums as Enums;
 ghost use Rattle.standard_types.specs.Standard.{standard-kind, standard-type-letter, repeated};
 ghost use Rattle.definition.specs.declared.Operator.the-variants as Operator;
 ghost use Rattle.letters.specs.Answers.{Operated};
+use budget::Budget;
 use definition::Leaf;
 use definition::NominalKind;
 use definition::Operator;
@@ -19,61 +20,71 @@ use text::Byte;
 use text::Cursor;
 use text::Number;
 
-// The standard types: their letters, their kinds (0 is a struct, 1 an enum, 2 a protocol), and the numbers of their names.
-const STANDARD_LETTERS: [u8; 48] = *b"aAbDdfhIiJNnOPpRrSsuVvWwqBEeFGHjKkLlMmQTtUXxYyZz";
+// The codes of STANDARD_KINDS.
+const STRUCT: u8 = 0;
 
-const STANDARD_KINDS: [u8; 48] = [
-    0,
-    0,
-    0,
-    0,
-    0,
-    0,
-    0,
-    0,
-    0,
-    0,
-    0,
-    0,
-    0,
-    0,
-    0,
-    0,
-    0,
-    0,
-    0,
-    0,
-    0,
-    0,
-    0,
-    0,
-    1,
-    2,
-    2,
-    2,
-    2,
-    2,
-    2,
-    2,
-    2,
-    2,
-    2,
-    2,
-    2,
-    2,
-    2,
-    2,
-    2,
-    2,
-    2,
-    2,
-    2,
-    2,
-    2,
-    2,
+const ENUM: u8 = 1;
+
+const PROTOCOL: u8 = 2;
+
+// The standard types: how many there are, their letters, the codes of their kinds, and the numbers
+// of their names.
+const STANDARD_TYPES: usize = 48;
+
+const STANDARD_LETTERS: [u8; STANDARD_TYPES] = *b"aAbDdfhIiJNnOPpRrSsuVvWwqBEeFGHjKkLlMmQTtUXxYyZz";
+
+const STANDARD_KINDS: [u8; STANDARD_TYPES] = [
+    STRUCT,
+    STRUCT,
+    STRUCT,
+    STRUCT,
+    STRUCT,
+    STRUCT,
+    STRUCT,
+    STRUCT,
+    STRUCT,
+    STRUCT,
+    STRUCT,
+    STRUCT,
+    STRUCT,
+    STRUCT,
+    STRUCT,
+    STRUCT,
+    STRUCT,
+    STRUCT,
+    STRUCT,
+    STRUCT,
+    STRUCT,
+    STRUCT,
+    STRUCT,
+    STRUCT,
+    ENUM,
+    PROTOCOL,
+    PROTOCOL,
+    PROTOCOL,
+    PROTOCOL,
+    PROTOCOL,
+    PROTOCOL,
+    PROTOCOL,
+    PROTOCOL,
+    PROTOCOL,
+    PROTOCOL,
+    PROTOCOL,
+    PROTOCOL,
+    PROTOCOL,
+    PROTOCOL,
+    PROTOCOL,
+    PROTOCOL,
+    PROTOCOL,
+    PROTOCOL,
+    PROTOCOL,
+    PROTOCOL,
+    PROTOCOL,
+    PROTOCOL,
+    PROTOCOL,
 ];
 
-const STANDARD_NAMES: [u8; 48] = [
+const STANDARD_NAMES: [u8; STANDARD_TYPES] = [
     4,
     5,
     6,
@@ -128,8 +139,8 @@ fn standard_kind(k: u8) -> NominalKind
     ensures { λ r. ⌜ Enums.nominal-kind r ≡ standard-kind k ⌝ }
 {
     match k {
-        0 => NominalKind::Struct,
-        1 => NominalKind::Enum,
+        STRUCT => NominalKind::Struct,
+        ENUM => NominalKind::Enum,
         _ => NominalKind::Protocol,
     }
 }
@@ -138,7 +149,7 @@ fn standard_type(c: Cursor, repeat: usize, b: u8) -> OperatorRead
     ensures { λ r. ⌜ ((t : Text.Text) → c .at ≤ length t → Operated (standard-type-letter repeat b (drop (c .at) t)) t (c .at) r) ⌝ }
 {
     let i = place_of(&STANDARD_LETTERS, b);
-    if i < 48 {
+    if i < STANDARD_TYPES {
         let kind = standard_kind(STANDARD_KINDS[i]);
         let name = wide(STANDARD_NAMES[i]);
         return OperatorRead::Read(
@@ -171,7 +182,7 @@ fn standard_repeat(text: &[u8], c: Cursor, repeat: usize) -> OperatorRead
     if repeat == 0 {
         return OperatorRead::Refused(Refusal::Spelling);
     }
-    if 4096 < repeat {
+    if Budget::MOST_STEPS < repeat {
         return OperatorRead::Refused(Refusal::Spelling);
     }
     match text::next(text, c) {

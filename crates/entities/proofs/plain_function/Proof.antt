@@ -62,20 +62,20 @@ enum-known-r : tie.Need-enum-known-r
 enum-known-r c = search needs
 
 -- src/lib.rt:397:1
-same-length : tie.Need-same-length
-same-length c = (function-done (typed-at (signed-type R.function-type) 2 0 _ _ (c .before .before .before .before .before .before .before .before .before .before .before .before .before .before .before .before .before .before .before .before .before .before .before .before .ty .given .1) (c .before .before .before .before .before .before .before .before .before .before .before .before .before .before .before .before .before .before .before .before .before .before .before .before .before .before .before .before .plain-type .ensures)) (labels-at (c .before .before .before .before .before .before .before .before .before .before .before .before .before .before .before .before .before .before .before .before .before .labels .ensures) _ _ _ (c .before .before .before .before .before .before .before .before .before .before .before .before .before .before .before .before .before .first .given .1)) (c .before .before .before .before .before .before .before .before .before .before .before .before .before .before .before .before .before .before .before .before .before .before .before .before .before .before .before .before .before .before .before .pre) (named _ _ (c .before .before .before .before .before .before .before .before .before .before .before .before .name .given .1) (c .before .before .before .before .before .before .before .before .before .before .before .before .before .before .pop-name .ensures)) (taken-place R.context 1 _ _ (c .before .before .before .before .before .c .given .1) (c .before .before .before .before .before .before .before .before .before .context .ensures)) (c .before .before .push-entity .ensures)) .long
-
--- src/lib.rt:397:1
 returns : tie.Need-returns
 returns c = function-done (typed-at (signed-type R.function-type) 2 0 _ _ (c .before .before .before .before .before .before .before .before .before .before .before .before .before .before .before .before .before .before .before .before .before .before .before .before .ty .given .1) (c .before .before .before .before .before .before .before .before .before .before .before .before .before .before .before .before .before .before .before .before .before .before .before .before .before .before .before .before .plain-type .ensures)) (labels-at (c .before .before .before .before .before .before .before .before .before .before .before .before .before .before .before .before .before .before .before .before .before .labels .ensures) _ _ _ (c .before .before .before .before .before .before .before .before .before .before .before .before .before .before .before .before .before .first .given .1)) (c .before .before .before .before .before .before .before .before .before .before .before .before .before .before .before .before .before .before .before .before .before .before .before .before .before .before .before .before .before .before .before .pre) (named _ _ (c .before .before .before .before .before .before .before .before .before .before .before .before .name .given .1) (c .before .before .before .before .before .before .before .before .before .before .before .before .before .before .pop-name .ensures)) (taken-place R.context 1 _ _ (c .before .before .before .before .before .c .given .1) (c .before .before .before .before .before .before .before .before .before .context .ensures)) (c .before .before .push-entity .ensures)
 
 -- src/lib.rt:397:1
-same-length-2 : tie.Need-same-length-2
-same-length-2 c = (function-alone (typed-at (signed-type R.function-type) 2 0 _ _ (c .before .before .before .before .before .before .before .before .before .before .before .before .before .before .before .before .before .before .before .ty .given .1) (c .before .before .before .before .before .before .before .before .before .before .before .before .before .before .before .before .before .before .before .before .before .before .before .plain-type .ensures)) (labels-at (c .before .before .before .before .before .before .before .before .before .before .before .before .before .before .before .before .labels .ensures) _ _ _ (c .before .before .before .before .before .before .before .before .before .before .before .before .first .given .1)) (c .before .before .before .before .before .before .before .before .before .before .before .before .before .before .before .before .before .before .before .before .before .before .before .before .before .before .pre) (named _ _ (c .before .before .before .before .before .before .before .name .given .1) (c .before .before .before .before .before .before .before .before .before .pop-name .ensures)) (taken-not R.context 1 (c .enum-told .given .1) (c .before .before .before .before .context .ensures))) .long
+same-length : tie.Need-same-length
+same-length c = returns c .long
 
 -- src/lib.rt:397:1
 returns-2 : tie.Need-returns-2
 returns-2 c = function-alone (typed-at (signed-type R.function-type) 2 0 _ _ (c .before .before .before .before .before .before .before .before .before .before .before .before .before .before .before .before .before .before .before .ty .given .1) (c .before .before .before .before .before .before .before .before .before .before .before .before .before .before .before .before .before .before .before .before .before .before .before .plain-type .ensures)) (labels-at (c .before .before .before .before .before .before .before .before .before .before .before .before .before .before .before .before .labels .ensures) _ _ _ (c .before .before .before .before .before .before .before .before .before .before .before .before .first .given .1)) (c .before .before .before .before .before .before .before .before .before .before .before .before .before .before .before .before .before .before .before .before .before .before .before .before .before .before .pre) (named _ _ (c .before .before .before .before .before .before .before .name .given .1) (c .before .before .before .before .before .before .before .before .before .pop-name .ensures)) (taken-not R.context 1 (c .enum-told .given .1) (c .before .before .before .before .context .ensures))
+
+-- src/lib.rt:397:1
+same-length-2 : tie.Need-same-length-2
+same-length-2 c = returns-2 c .long
 
 -- src/lib.rt:397:1
 same-length-3 : tie.Need-same-length-3

@@ -34,8 +34,8 @@ returns-2 c =
       small = omega arith;
     }
 
-count-index-requires : tie.Need-count-index-requires
-count-index-requires c κs = search needs
+index-plus-one-requires : tie.Need-index-plus-one-requires
+index-plus-one-requires c κs = search needs
 
 enum-known-n : tie.Need-enum-known-n
 enum-known-n c = search needs
@@ -47,7 +47,7 @@ returns-3 : tie.Need-returns-3
 returns-3 c =
     let s = c .before .before .before .before .before .before .before .before .before .next-if .ensures in
     let z = c .before .before .before .before .before .before .next-if2 .ensures in
-    let g = number-read (c .before .before .before .before .before .before .before .before .before .before .before .args .text .now) (c .before .before .before .before .before .before .next-if2 .result .next .at) (c .before .n .given .1) (c .before .before .before .count-index .ensures) in
+    let g = number-read (c .before .before .before .before .before .before .before .before .before .before .before .args .text .now) (c .before .before .before .before .before .before .next-if2 .result .next .at) (c .before .n .given .1) (c .before .before .before .index-plus-one .ensures) in
     record {
       stands = record {
         is = count-index (drop (c .before .before .before .before .before .before .before .before .before .before .before .args .c .at) (c .before .before .before .before .before .before .before .before .before .before .before .args .text .now)) (taken-is (s .is) (c .before .before .before .before .before .before .before .if1 .left)) (taken-is (z .is) (c .before .before .before .before .if2 .left)) ∙ then-ok (λ (n : ℕ) (t : Text). ok (some n) t) (g .is);
@@ -62,7 +62,7 @@ returns-4 c =
     let s = c .before .before .before .before .before .before .before .before .before .next-if .ensures in
     let z = c .before .before .before .before .before .before .next-if2 .ensures in
     count-index (drop (c .before .before .before .before .before .before .before .before .before .before .before .args .c .at) (c .before .before .before .before .before .before .before .before .before .before .before .args .text .now)) (taken-is (s .is) (c .before .before .before .before .before .before .before .if1 .left)) (taken-is (z .is) (c .before .before .before .before .if2 .left))
-    ∙ then-refused (λ (n : ℕ) (t : Text). ok (some n) t) (number-refused (c .before .before .before .before .before .before .before .before .before .before .before .args .text .now) (c .before .before .before .before .before .before .next-if2 .result .next .at) (c .before .f .given .1) (c .before .before .before .count-index .ensures))
+    ∙ then-refused (λ (n : ℕ) (t : Text). ok (some n) t) (number-refused (c .before .before .before .before .before .before .before .before .before .before .before .args .text .now) (c .before .before .before .before .before .before .next-if2 .result .next .at) (c .before .f .given .1) (c .before .before .before .index-plus-one .ensures))
 
 pub one-count-spec : {M : Type 1} → statement M
 one-count-spec =
@@ -72,7 +72,7 @@ one-count-spec =
     returns
     next-if-requires-2
     returns-2
-    count-index-requires
+    index-plus-one-requires
     enum-known-n
     enum-known-f
     returns-3

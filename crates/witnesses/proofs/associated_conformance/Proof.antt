@@ -66,20 +66,20 @@ enum-told-3 : tie.Need-enum-told-3
 enum-told-3 c = search needs
 
 -- src/lib.rt:199:1
-same-length : tie.Need-same-length
-same-length c = (conforming-left (taken-place R.protocol 2 _ _ (c .before .before .before .before .before .before .before .before .before .before .before .before .before .before .before .before .before .before .before .before .before .required .given .1) (c .before .before .before .before .before .before .before .before .before .before .before .before .before .before .before .before .before .before .before .before .before .before .before .before .before .protocol .ensures)) (c .before .before .before .before .before .before .before .before .before .before .before .before .before .before .before .before .before .before .took .ensures) (c .before .before .before .before .before .before .before .before .before .before .before .before .before .before .before .before .qualifier .ensures) (named-at R.pop-name _ _ (c .before .before .before .before .before .before .before .before .before .before .name .given .1) (c .before .before .before .before .before .before .before .before .before .before .before .before .pop-name .ensures)) (taken-place (R.pop-if K.is-type) 3 _ _ (c .before .before .before .before .before .p .given .1) (c .before .before .before .before .before .before .before .pop-if .ensures .0)) (c .before .before .push-new .ensures)) .long
-
--- src/lib.rt:199:1
 returns : tie.Need-returns
 returns c = conforming-left (taken-place R.protocol 2 _ _ (c .before .before .before .before .before .before .before .before .before .before .before .before .before .before .before .before .before .before .before .before .before .required .given .1) (c .before .before .before .before .before .before .before .before .before .before .before .before .before .before .before .before .before .before .before .before .before .before .before .before .before .protocol .ensures)) (c .before .before .before .before .before .before .before .before .before .before .before .before .before .before .before .before .before .before .took .ensures) (c .before .before .before .before .before .before .before .before .before .before .before .before .before .before .before .before .qualifier .ensures) (named-at R.pop-name _ _ (c .before .before .before .before .before .before .before .before .before .before .name .given .1) (c .before .before .before .before .before .before .before .before .before .before .before .before .pop-name .ensures)) (taken-place (R.pop-if K.is-type) 3 _ _ (c .before .before .before .before .before .p .given .1) (c .before .before .before .before .before .before .before .pop-if .ensures .0)) (c .before .before .push-new .ensures)
 
 -- src/lib.rt:199:1
-same-length-2 : tie.Need-same-length-2
-same-length-2 c = (conforming-no-type (taken-place R.protocol 2 _ _ (c .before .before .before .before .before .before .before .before .before .before .before .before .before .before .before .before .required .given .1) (c .before .before .before .before .before .before .before .before .before .before .before .before .before .before .before .before .before .before .before .before .protocol .ensures)) (c .before .before .before .before .before .before .before .before .before .before .before .before .before .took .ensures) (c .before .before .before .before .before .before .before .before .before .before .before .qualifier .ensures) (named-at R.pop-name _ _ (c .before .before .before .before .before .name .given .1) (c .before .before .before .before .before .before .before .pop-name .ensures)) (taken-not (R.pop-if K.is-type) 3 (c .enum-told .given .1) (c .before .before .pop-if .ensures .0))) .long
+same-length : tie.Need-same-length
+same-length c = returns c .long
 
 -- src/lib.rt:199:1
 returns-2 : tie.Need-returns-2
 returns-2 c = conforming-no-type (taken-place R.protocol 2 _ _ (c .before .before .before .before .before .before .before .before .before .before .before .before .before .before .before .before .required .given .1) (c .before .before .before .before .before .before .before .before .before .before .before .before .before .before .before .before .before .before .before .before .protocol .ensures)) (c .before .before .before .before .before .before .before .before .before .before .before .before .before .took .ensures) (c .before .before .before .before .before .before .before .before .before .before .before .qualifier .ensures) (named-at R.pop-name _ _ (c .before .before .before .before .before .name .given .1) (c .before .before .before .before .before .before .before .pop-name .ensures)) (taken-not (R.pop-if K.is-type) 3 (c .enum-told .given .1) (c .before .before .pop-if .ensures .0))
+
+-- src/lib.rt:199:1
+same-length-2 : tie.Need-same-length-2
+same-length-2 c = returns-2 c .long
 
 -- src/lib.rt:199:1
 same-length-3 : tie.Need-same-length-3
