@@ -52,8 +52,9 @@ CASES = [
 # lines of many lengths, some across the end of a buffer
 MANY = [(b"$s4main%d%syyF" % (n, b"a" * n), None, (5, 5, 1)) for k in range(30) for n in range(1, 61)]
 
-# the last line has no newline
-TAIL = [(b"$sZ", (10, 2), None), (b"$s4main3foo3barySi_tF", None, (8, 10, 2))]
+# the input of `names` ends in a short line with no newline, that of `shapes` in a newline
+TAIL = [(b"$s4main3foo3barySi_tF", None, (8, 10, 2)), (b"$sZ", (10, 2), None)]
+ENDS = {"names": b"", "shapes": b"\n"}
 
 
 def refused(number, place):
@@ -76,7 +77,7 @@ def main():
         shapes.append(refused(*refusal) if counts is None else b"=\t%d\t%d\t%d\n" % counts)
     for crate, answers in (("names", names), ("shapes", shapes)):
         with open(f"crates/{crate}/stdin", "wb") as f:
-            f.write(text)
+            f.write(text + ENDS[crate])
         with open(f"crates/{crate}/stdout", "wb") as f:
             f.write(b"".join(answers))
 

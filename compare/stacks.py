@@ -1,33 +1,36 @@
 #!/usr/bin/env python3
-"""Writes crates/stacks/stdin, and crates/stacks/stdout from the answers of an instrumented copy of the Rust source.
+"""Composes the lines of the test program `stacks`, with their answers by the instrumented Rust.
 
-Run from the repository's root: compare/stacks.py PROGRAM. It composes the bodies below, writes the lines `k body`, gives them to PROGRAM
-and keeps what that answers. None of our own code makes an answer. `compare/stacks.py PROGRAM MANY` writes nothing: it makes MANY bodies
-more, changed at random, and prints the lines on which target/bin/stacks and PROGRAM differ.
+compare/stacks builds VECTORS, the program of compare/src/vectors.rs with the instrumented copy of
+the Rust source, and runs this:
 
-PROGRAM is swift_demangle.rs of ag-engine, built by rustc as a program with these changes, made by a script that is not kept here:
-- The bound on nodes is 256 in place of 65,536.
-- The demangler has two numbers more: after how many turns `run` stops, and where the turn began that it is in. The loop of `run` ends
-  when as many turns were made, and notes its place at the head of each.
-- A number says what was asked last, and is the number of the refusal where `run` gives None. It becomes 9 wherever the text is looked at
-  (the one function through which every letter is read), 10 where a node is popped, with a condition or without, 8 where a wrap is
-  counted and where a 257th count after `r` is met, 7 at the head of the charge and before the product that a copy charges, 6 where a step
-  too many is met. So a None after letters is 9 and a None after a pop is 10.
-- For each line a demangler is made of the body and run. If it ends, `=` and for each node on its stack, bottom first, its kind (the place
-  of its case in the source's enumeration, nominals split by their five), what the source's own size function gives, and the count: the
-  elements of a tuple, those of a function type's parameter tuple (else 1), the members of a protocol list, else 0. If not, `!`, the
-  number and the place. The answer is written twice, with a tab between: once for the reading, once for the check.
+  stacks.py VECTORS FOLDER                 writes FOLDER/stdin and FOLDER/stdout
+  stacks.py VECTORS --search COUNT OURS    writes nothing: makes COUNT lines more, changed at random,
+                                           and prints those on which OURS and the copy differ
 
-The ceiling of 256 is passed before 4,096 operators or 256 wraps are, so 6 does not occur here and 8 occurs by counts only. The list takes
-every arm and every block behind a condition of the source's stack machine but three that cannot be taken: a 4,097th operator, a part of an
-identifier with the length 0 (a `0` there closes the identifier), and the end of a whole symbol, which a stopped run does not come to.
+A line is `k body`: the body, as a type, is run with a ceiling of 256 and stopped after k turns. The
+answer is `=` and kind, size and count of each node on the stack, bottom first; or `!`, number and
+place. It is written twice, with a tab between: once for the reading, once for the check. None of
+our own code makes an answer.
+
+The ceiling of 256 is passed before 4,096 operators or 256 wraps are, so 6 does not occur here and 8
+occurs by counts only. The list takes every arm and every conditional block of the source's stack
+machine but three that cannot be taken: a 4,097th operator, a part of an identifier with the length
+0 (a `0` there closes the identifier), and the end of a whole symbol, which a stopped run does not
+reach.
 """
+import os
 import subprocess
 import sys
 
 N = 256
 ROOM = 65536  # what the program reads at once
 END = 999  # a k past the body's end
+
+# a case of compare/src/vectors.rs: the reading of a type, stopped
+TYPE_STOPPED = 5
+WORKSPACE = 64 * N
+MOST_ENTRIES = 3 * N  # three numbers for each node, of which the ceiling allows N
 
 STANDARD = "aAbDdfhIiJNnOPpRrSsuVvWwqBEeFGHjKkLlMmQTtUXxYyZz"
 
@@ -238,45 +241,67 @@ def lines_of(some):
     return "".join("%d %s\n" % (k, body) for k, body in some).encode()
 
 
-def answers(program, text):
-    return subprocess.run([program], input=text, stdout=subprocess.PIPE, check=True).stdout
+def output_of(command, text):
+    return subprocess.run(command, input=text, stdout=subprocess.PIPE, check=True).stdout
 
 
-def search(program, many):
-    r = Numbers(many)
+def spelled(answer):
+    """An answer of VECTORS as the program `stacks` writes it."""
+    head, written = answer.split("\t")
+    number, place = head.split(" ")[:2]
+    if number != "0":
+        return "! %s %s" % (number, place)
+    numbers = written.split()
+    return " ".join(["="] + [",".join(numbers[i:i + 3]) for i in range(0, len(numbers), 3)])
+
+
+def answers(vectors, some):
+    """What the instrumented copy of the Rust answers to these lines."""
+    cases = "".join("%d\t%d\t%d\t%d\t%d\t%s\n" % (TYPE_STOPPED, N, k, WORKSPACE, MOST_ENTRIES, body.encode().hex()) for k, body in some)
+    lines = output_of([vectors, "answers"], cases.encode()).decode().splitlines()
+    return "".join("%s\t%s\n" % (spelled(line), spelled(line)) for line in lines).encode()
+
+
+def search(vectors, count, ours):
+    """Prints the lines that differ and returns how many there are."""
+    r = Numbers(count)
     bodies = list(operators()) + COMPOSED + list(many_nodes())
     differ = done = 0
-    while done < many:
+    while done < count:
         part, size = [], 0
-        while size < ROOM - 3000 and done < many:
+        while size < ROOM - 3000 and done < count:
             body = r.one([r.one(bodies), entity(r, 1 + r.below(2)), recorded(r, 1 + r.below(3)), kind_of(r, r.below(4))])
             for _ in range(r.below(4)):
                 body = changed(r, body)[:1000]
-            try:
-                body.encode().decode()
-            except UnicodeError:
-                continue
             part.append((r.one([END, END, END, 1 + r.below(20)]), body))
             size += len(body.encode()) + 4
             done += 1
         text = lines_of(part)
-        for line, ours, theirs in zip(text.split(b"\n"), answers("target/bin/stacks", text).split(b"\n"), answers(program, text).split(b"\n")):
-            if ours != theirs:
+        rows = [text.split(b"\n"), output_of([ours], text).split(b"\n"), answers(vectors, part).split(b"\n")]
+        assert len(set(map(len, rows))) == 1, "as many answers as lines"
+        for line, mine, theirs in zip(*rows):
+            if mine != theirs:
                 differ += 1
-                print(line.decode(), ours.decode(), theirs.decode(), sep="\n  ")
+                print(line.decode(), mine.decode(), theirs.decode(), sep="\n  ")
     print(done, "lines,", differ, "differ")
+    return differ
+
+
+def write(vectors, folder):
+    some = list(cases())
+    text = lines_of(some)
+    assert len(text) <= ROOM
+    os.makedirs(folder, exist_ok=True)
+    for name, content in (("stdin", text), ("stdout", answers(vectors, some))):
+        with open(os.path.join(folder, name), "wb") as f:
+            f.write(content)
+    print(len(some), "lines")
 
 
 def main():
-    program = sys.argv[1]
-    if len(sys.argv) > 2:
-        return search(program, int(sys.argv[2]))
-    text = lines_of(cases())
-    assert len(text) <= ROOM
-    with open("crates/stacks/stdin", "wb") as f:
-        f.write(text)
-    with open("crates/stacks/stdout", "wb") as f:
-        f.write(answers(program, text))
+    if sys.argv[2] == "--search":
+        sys.exit(1 if search(sys.argv[1], int(sys.argv[3]), sys.argv[4]) else 0)
+    write(sys.argv[1], sys.argv[2])
 
 
 main()

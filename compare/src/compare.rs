@@ -1,11 +1,14 @@
 //! Compares our calls with the Rust source, unchanged, on many texts (compare/run builds and starts it).
+//! Numbers, places, counts and stacks are compared with the instrumented copy of it, on the texts
+//! that are listed and on a share of those that are drawn.
 //!
 //! Workers are processes. What the Rust itself cannot do is told by what becomes of it, and counted apart:
 //! - it panics (caught);
 //! - its process ends, out of memory (more than MOST_MEMORY) or out of call stack (512 MB);
 //! - it is not done after MOST_SECONDS.
-//! Our own answers on such a text are still held against each other. A process that ends, or is not done, while it is in one of our calls is
-//! a difference.
+//! Our own answers on such a text are still held against each other. A process that ends, or is not
+//! done, while it is in one of our calls, or in the instrumented copy where the Rust itself answers,
+//! is a difference.
 
 mod grammar;
 mod judge;
@@ -25,16 +28,21 @@ use texts::{Source, Text, Texts};
 
 const MOST_MEMORY: u64 = 3 << 30;
 const MOST_SECONDS: u64 = 10;
+/// Of the texts that are drawn, each whose number is a multiple of this is compared with numbers. It
+/// divides no usual count of workers, so that they, who take turns, have as many of them each.
+const NUMBERS_EVERY: usize = 7;
 
 struct Options {
     texts: usize,
     seed: u64,
     workers: usize,
+    numbers_every: usize,
     one: Option<Text>,
 }
 
 fn options() -> Options {
-    let mut o = Options { texts: 20_000_000, seed: 1, workers: std::thread::available_parallelism().map_or(1, |n| n.get()), one: None };
+    let workers = std::thread::available_parallelism().map_or(1, |n| n.get());
+    let mut o = Options { texts: 20_000_000, seed: 1, workers, numbers_every: NUMBERS_EVERY, one: None };
     let mut args = std::env::args().skip(1);
     while let Some(name) = args.next() {
         let value = args.next().unwrap_or_else(|| usage());
@@ -43,6 +51,7 @@ fn options() -> Options {
             "--texts" => o.texts = number(&value),
             "--seed" => o.seed = number(&value) as u64,
             "--workers" => o.workers = number(&value).clamp(1, shared::WORKERS),
+            "--numbers-every" => o.numbers_every = number(&value).max(1),
             "--symbol" => o.one = text(Form::Symbol),
             "--type" => o.one = text(Form::Type),
             _ => usage(),
@@ -56,7 +65,7 @@ fn number(value: &str) -> usize {
 }
 
 fn usage() -> ! {
-    eprintln!("usage: compare [--texts COUNT] [--seed NUMBER] [--workers COUNT] [--symbol TEXT | --type TEXT]");
+    eprintln!("usage: compare [--texts COUNT] [--seed NUMBER] [--workers COUNT] [--numbers-every COUNT] [--symbol TEXT | --type TEXT]");
     std::process::exit(2)
 }
 
@@ -101,18 +110,25 @@ fn work(
     step: usize,
     total: usize,
     seed: u64,
+    numbers_every: usize,
     skip: Option<usize>,
 ) {
     let mut judge = Judge::new(seed.wrapping_add(start as u64), shared);
     let mut i = start;
     while i < total {
+        let numbers = i < texts.listed() || i % numbers_every == 0;
         shared.enter(Phase::Idle, i as u64);
         let text = texts.at(i);
         let rust = if skip == Some(i) { Rust::Failed } else { judge::rust(text.form, &text.bytes, shared, i as u64) };
         shared.enter(Phase::Ours, i as u64);
-        judge.begin(seed.wrapping_mul(31).wrapping_add(i as u64));
+        judge.begin(seed.wrapping_mul(31).wrapping_add(i as u64), numbers);
         match judge.judge(text.form, &text.bytes, &rust) {
-            Ok(number) => count(shared, &text, &rust, number, operators, i, skip),
+            Ok(number) => {
+                count(shared, &text, &rust, number, operators, i, skip);
+                if numbers && judge::has_numbers(&text.bytes, &rust) {
+                    shared.counts.with_numbers.fetch_add(1, Relaxed);
+                }
+            }
             Err(say) => return shared.difference(form_number(text.form), &text.bytes, &say),
         }
         shared.counts.calls.fetch_add(std::mem::take(&mut judge.calls), Relaxed);
@@ -191,8 +207,8 @@ fn main() {
     let total = o.texts.max(texts.listed());
     let begun = Instant::now();
     let launch = |worker: usize, start: usize, skip: Option<usize>| {
-        let (texts, operators, workers, seed) = (&texts, &operators, o.workers, o.seed);
-        shared::start(worker, MOST_MEMORY, move || work(shared, texts, operators, start, workers, total, seed, skip))
+        let (texts, operators, workers, seed, every) = (&texts, &operators, o.workers, o.seed, o.numbers_every);
+        shared::start(worker, MOST_MEMORY, move || work(shared, texts, operators, start, workers, total, seed, every, skip))
     };
     let mut pids: Vec<Option<i32>> = (0..o.workers).map(|w| Some(launch(w, w, None))).collect();
     let mut watches: Vec<Watch> = (0..o.workers).map(|_| Watch::new()).collect();
@@ -223,8 +239,7 @@ fn main() {
                 watches[w] = Watch::new();
             } else {
                 let text = texts.at(at as usize);
-                let say = if still { "our call is not done" } else { "our call ended the process" };
-                shared.difference(form_number(text.form), &text.bytes, say);
+                shared.difference(form_number(text.form), &text.bytes, &failure(phase, still));
             }
         }
         if last_line.elapsed() > every {
@@ -242,6 +257,12 @@ fn main() {
         std::process::exit(1);
     }
     summary(shared, &operators, total, died, slow, begun);
+}
+
+/// What is said of a process that ended, or is not done, while it was not in the Rust itself.
+fn failure(phase: Phase, still: bool) -> String {
+    let who = if phase == Phase::Instrumented { "the instrumented Rust" } else { "our call" };
+    format!("{who} {}", if still { "is not done" } else { "ended the process" })
 }
 
 fn line(shared: &Shared, total: usize, died: u64, slow: u64, begun: Instant) {
@@ -272,6 +293,7 @@ fn summary(shared: &Shared, operators: &[String], total: usize, died: u64, slow:
         "the Rust fails: it panics on {}, runs out of memory or stack on {died}, is not done after {MOST_SECONDS} s on {slow}",
         get(&c.panicked)
     );
+    println!("with numbers, places, counts and stacks: {} texts", get(&c.with_numbers));
     let numbers: Vec<String> = c.numbers.iter().enumerate().map(|(i, n)| format!("{i}: {}", get(n))).collect();
     println!("our numbers at N = 65,536: {}", numbers.join(", "));
     let mut seen: Vec<(u64, &String)> = c.operators.iter().map(get).zip(operators).collect();
@@ -300,7 +322,7 @@ fn differs(shared: &'static Shared, form: Form, text: &[u8]) -> Option<String> {
             shared.enter(Phase::Ours, 0);
             let mut judge = Judge::new(7, shared);
             for seed in 0..40 {
-                judge.begin(seed);
+                judge.begin(seed, true);
                 if let Err(say) = judge.judge(form, &bytes, &rust) {
                     return shared.difference(form_number(form), &bytes, &say);
                 }
@@ -308,19 +330,20 @@ fn differs(shared: &'static Shared, form: Form, text: &[u8]) -> Option<String> {
             }
         });
         let mut watch = Watch::new();
-        let died = loop {
+        let still = loop {
             match shared::end_of(pid) {
                 End::Ended => return shared.noted().map(|(_, _, say)| say),
-                End::Died => break true,
+                End::Died => break false,
                 End::Running if watch.still(shared.at(0).2) => {
                     shared::stop(pid);
-                    break false;
+                    break true;
                 }
                 End::Running => std::thread::sleep(Duration::from_micros(200)),
             }
         };
-        if shared.at(0).1 != Phase::Rust {
-            return Some(if died { "our call ended the process" } else { "our call is not done" }.to_string());
+        let (_, phase, _) = shared.at(0);
+        if phase != Phase::Rust {
+            return Some(failure(phase, still));
         }
         skip = true;
     }

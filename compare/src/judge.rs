@@ -45,6 +45,8 @@ pub struct Judge {
     small: Vec<u32>,
     out: Vec<u8>,
     stack: Vec<u32>,
+    /// Whether the text at hand is compared with the instrumented copy of the Rust too.
+    numbers: bool,
     pub calls: u64,
     shared: &'static Shared,
 }
@@ -111,7 +113,7 @@ impl Judge {
         let dirt: Vec<u32> = (0..1 << 18).map(|_| r.next() as u32).collect();
         let dirt_bytes: Vec<u8> = (0..1 << 18).map(|_| r.next() as u8).collect();
         let big: Vec<u32> = (0..64 * MOST + GUARD).map(|i| dirt[i % dirt.len()]).collect();
-        Judge { r, dirt, dirt_bytes, big, small: Vec::new(), out: Vec::new(), stack: Vec::new(), calls: 0, shared }
+        Judge { r, dirt, dirt_bytes, big, small: Vec::new(), out: Vec::new(), stack: Vec::new(), numbers: false, calls: 0, shared }
     }
 
     /// A call was made: the process moves.
@@ -120,9 +122,11 @@ impl Judge {
         self.shared.turn();
     }
 
-    /// From here on the same choices for the same seed.
-    pub fn begin(&mut self, seed: u64) {
+    /// From here on the same choices for the same seed; with `numbers` the instrumented copy of the
+    /// Rust is asked too.
+    pub fn begin(&mut self, seed: u64, numbers: bool) {
         self.r = Random::new(seed);
+        self.numbers = numbers;
     }
 
     /// A workspace of so many numbers, all dirt, with a guard behind it. Answers where the dirt was taken from.
@@ -338,7 +342,7 @@ impl Judge {
             _ => {}
         }
 
-        self.as_the_oracle(form, text, rust, MOST, None, checked, &[])?;
+        self.as_instrumented(form, text, rust, Run { n: MOST, k: None, room: 0 }, checked, &[])?;
 
         // stopped after k
         let steps = checked.steps as usize;
@@ -351,7 +355,7 @@ impl Judge {
         let room = 3 * (MOST.min(4 * text.len() + 64));
         let n = if self.r.chance(30) { MOST } else { 1 + self.r.below(400) };
         let (a, stack) = self.both_stopped(form, text, n, k, room)?;
-        self.as_the_oracle(form, text, rust, n, Some(k), a, &stack)?;
+        self.as_instrumented(form, text, rust, Run { n, k: Some(k), room }, a, &stack)?;
         if a.number == 0 && a.length > 0 {
             let less = self.r.below(a.length as usize);
             let (b, _) = self.both_stopped(form, text, n, k, less)?;
@@ -402,7 +406,7 @@ impl Judge {
             let a = self.read(form, text, n, w, room)?;
             let w = self.enough(Call::Check, n);
             let c = self.check(form, text, n, w)?;
-            self.as_the_oracle(form, text, rust, n, None, c, &[])?;
+            self.as_instrumented(form, text, rust, Run { n, k: None, room: 0 }, c, &[])?;
             let say = || {
                 format!(
                     "with N = 65,536 {checked:?}; with N = {n} and room for {room} of {length} the reading answers {a:?}, the check {c:?}"
@@ -441,34 +445,42 @@ impl Judge {
     }
 }
 
+/// Whether the instrumented copy of the Rust answers for a text: the Rust itself must, and the text
+/// be one that our calls read.
+pub fn has_numbers(text: &[u8], rust: &Rust) -> bool {
+    cfg!(oracle) && matches!(rust, Rust::Text(_) | Rust::None) && text.len() <= MOST_TEXT
+}
+
+/// A run that the instrumented copy of the Rust makes too: its ceiling, after how many turns it is
+/// stopped, and the room for its stack.
+#[derive(Debug)]
+struct Run {
+    n: usize,
+    k: Option<usize>,
+    room: usize,
+}
+
 #[cfg(oracle)]
 impl Judge {
-    /// Number, place, counts and stack as an instrumented copy of the Rust gives them (compare/README.md says how one is made).
-    #[allow(clippy::too_many_arguments)]
-    fn as_the_oracle(&self, form: Form, text: &[u8], rust: &Rust, n: usize, k: Option<usize>, ours: Answer, stack: &[u32]) -> Verdict<()> {
-        if !matches!(rust, Rust::Text(_) | Rust::None) || text.len() > MOST_TEXT || ours.number == 12 {
+    /// Number, place, counts and stack as the instrumented copy of the Rust returns them.
+    fn as_instrumented(&self, form: Form, text: &[u8], rust: &Rust, run: Run, ours: Answer, stack: &[u32]) -> Verdict<()> {
+        if !self.numbers || !has_numbers(text, rust) {
             return Ok(());
         }
-        let theirs = instrumented::answer(text, form == Form::Symbol, n, k, false, 0);
-        let a = Answer {
-            number: theirs.number,
-            place: theirs.place,
-            steps: theirs.steps,
-            total: theirs.total,
-            wraps: theirs.wraps,
-            length: theirs.entries.len() as u64,
-        };
-        let a = if a.number == 0 { a } else { Answer::refused(a.number, a.place as usize) };
-        must(a == ours && theirs.entries == stack, || {
-            format!("N = {n}, k = {k:?}: the instrumented Rust answers {a:?} {:?}, ours {ours:?} {stack:?}", theirs.entries)
+        let (at, ..) = self.shared.here();
+        self.shared.enter(Phase::Instrumented, at);
+        let theirs = instrumented::answer(text, form == Form::Symbol, run.n, run.k, false, run.room);
+        self.shared.enter(Phase::Ours, at);
+        let a = Answer::of(theirs.values);
+        must(a == ours && theirs.stack == stack, || {
+            format!("{run:?}: the instrumented Rust answers {a:?} {:?}, ours {ours:?} {stack:?}", theirs.stack)
         })
     }
 }
 
 #[cfg(not(oracle))]
 impl Judge {
-    #[allow(clippy::too_many_arguments)]
-    fn as_the_oracle(&self, _: Form, _: &[u8], _: &Rust, _: usize, _: Option<usize>, _: Answer, _: &[u32]) -> Verdict<()> {
+    fn as_instrumented(&self, _: Form, _: &[u8], _: &Rust, _: Run, _: Answer, _: &[u32]) -> Verdict<()> {
         Ok(())
     }
 }

@@ -39,7 +39,7 @@ pub struct Answer {
 }
 
 impl Answer {
-    fn of(a: [u64; 6]) -> Answer {
+    pub fn of(a: [u64; 6]) -> Answer {
         Answer { number: a[0], place: a[1], steps: a[2], total: a[3], wraps: a[4], length: a[5] }
     }
 

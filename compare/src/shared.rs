@@ -22,6 +22,8 @@ pub enum Phase {
     Idle,
     Rust,
     Ours,
+    /// In the instrumented copy of the Rust.
+    Instrumented,
 }
 
 #[repr(C)]
@@ -39,6 +41,8 @@ pub struct Counts {
     pub read_by_rust: AtomicU64,
     pub none_by_rust: AtomicU64,
     pub not_asked: AtomicU64,
+    /// Texts of which numbers, places, counts and stacks were compared too.
+    pub with_numbers: AtomicU64,
     pub panicked: AtomicU64,
     pub numbers: [AtomicU64; 13],
     pub operators: [AtomicU64; OPERATORS],
@@ -91,7 +95,7 @@ impl Shared {
 
     pub fn at(&self, worker: usize) -> (u64, Phase, u64) {
         let at = self.workers[worker].at.load(SeqCst);
-        (at / 4, [Phase::Idle, Phase::Rust, Phase::Ours][(at % 4) as usize], self.workers[worker].turns.load(SeqCst))
+        (at / 4, [Phase::Idle, Phase::Rust, Phase::Ours, Phase::Instrumented][(at % 4) as usize], self.workers[worker].turns.load(SeqCst))
     }
 
     /// Notes a text that differs, the first one only.

@@ -44,8 +44,7 @@ impl Case {
 
     fn line(&self) -> String {
         let k = self.k.map_or("-".to_string(), |k| k.to_string());
-        let hex: String = self.text.iter().map(|b| format!("{b:02x}")).collect();
-        format!("{}\t{}\t{k}\t{}\t{}\t{hex}", self.number(), self.ceiling, self.workspace, self.room)
+        format!("{}\t{}\t{k}\t{}\t{}\t{}", self.number(), self.ceiling, self.workspace, self.room, hex(&self.text))
     }
 
     fn of(line: &str) -> Case {
@@ -78,42 +77,40 @@ fn main() {
     }
 }
 
+fn hex(bytes: &[u8]) -> String {
+    bytes.iter().map(|b| format!("{b:02x}")).collect()
+}
+
+fn joined(numbers: &[impl ToString]) -> String {
+    numbers.iter().map(|n| n.to_string()).collect::<Vec<_>>().join(" ")
+}
+
 // Answers
 
 #[cfg(oracle)]
 fn answer(c: &Case) -> String {
-    let refused = |number: u64, place: u64| format!("{number} {place} 0 0 0 0\t");
+    let refused = |number: u64| format!("{number} 0 0 0 0 0\t");
     if c.ceiling == 0 || c.ceiling > MOST {
-        return refused(1, 0);
+        return refused(1);
     }
     if c.workspace < numbers_a_node(c.call) * c.ceiling {
-        return refused(2, 0);
+        return refused(2);
     }
     if c.text.len() > 65_535 {
-        return refused(3, 0);
+        return refused(3);
     }
-    let reading = c.call == Call::Reading && c.k.is_none();
-    // a signature's text is longer than its parameters are many, so more than `room` of them are 12 already
-    let a = instrumented::answer(&c.text, c.form == Form::Symbol, c.ceiling, c.k, reading, c.room);
-    if a.number != 0 {
-        return refused(a.number, a.place);
-    }
-    let text = a.text.unwrap_or_default();
-    let length = if c.k.is_some() { a.entries.len() } else { text.len() };
-    if length > c.room && (reading || c.k.is_some()) {
-        return refused(12, 0);
-    }
-    let written = if c.k.is_some() {
-        a.entries.iter().map(|n| n.to_string()).collect::<Vec<_>>().join(" ")
-    } else {
-        text.bytes().map(|b| format!("{b:02x}")).collect()
+    let print = c.call == Call::Reading && c.k.is_none();
+    let a = instrumented::answer(&c.text, c.form == Form::Symbol, c.ceiling, c.k, print, c.room);
+    let written = match c.k {
+        Some(_) => joined(&a.stack),
+        None => hex(a.text.as_bytes()),
     };
-    format!("0 0 {} {} {} {length}\t{written}", a.steps, a.total, a.wraps)
+    format!("{}\t{written}", joined(&a.values))
 }
 
 #[cfg(not(oracle))]
 fn answer(_: &Case) -> String {
-    panic!("answers come from an instrumented copy of the Rust: set ORACLE (compare/README.md)")
+    panic!("the answers are the instrumented copy's, and this was built without it")
 }
 
 /// What our calls answer, by the C interface.
@@ -128,8 +125,8 @@ fn ours_of(c: &Case) -> String {
     };
     let length = a.length as usize;
     let written = match c.k {
-        Some(_) => numbers[..length].iter().map(|n| n.to_string()).collect::<Vec<_>>().join(" "),
-        None => bytes[..length].iter().map(|b| format!("{b:02x}")).collect(),
+        Some(_) => joined(&numbers[..length]),
+        None => hex(&bytes[..length]),
     };
     format!("{} {} {} {} {} {length}\t{written}", a.number, a.place, a.steps, a.total, a.wraps)
 }
@@ -158,7 +155,7 @@ fn check(cases: &str, answers: &str) {
         asked += 1;
         let expected = match &theirs {
             Some(t) if c.call == Call::Reading && t.len() > c.room => head[0] == 12,
-            Some(t) if c.call == Call::Reading => head[0] == 0 && written == t.bytes().map(|b| format!("{b:02x}")).collect::<String>(),
+            Some(t) if c.call == Call::Reading => head[0] == 0 && written == hex(t.as_bytes()),
             Some(_) => head[0] == 0 && written.is_empty(),
             None => head[0] != 0 && head[0] != 12 && written.is_empty(),
         };
