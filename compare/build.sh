@@ -10,6 +10,7 @@ RUST_SOURCE=${RUST_SOURCE:-$root/../shared/docs/src/crates/ag-engine/src/swift_d
 LIBCAPI=${LIBCAPI:-$root/target/staticlib}
 mkdir -p "$out"
 link=()
+archives=()
 
 fail() {
     echo "$*" >&2
@@ -39,7 +40,8 @@ capi() {
     local name
     for name in capi capi_check; do
         [ -f "$LIBCAPI/lib$name.a" ] || fail "no $LIBCAPI/lib$name.a: run 'rt staticlib $name' first, or set LIBCAPI"
-        link+=(-C "link-arg=$(cd "$LIBCAPI" && pwd)/lib$name.a")
+        archives+=("$(cd "$LIBCAPI" && pwd)/lib$name.a")
+        link+=(-C "link-arg=${archives[-1]}")
     done
 }
 

@@ -1,11 +1,11 @@
-//! Our calls, by the C interface (include/swift_demangle.h).
+//! Our calls, by the C interface (include/cepruvels.h).
 
 #[path = "../../bindings/rust/src/raw.rs"]
 mod raw;
 
 use raw::{
-    swift_demangle, swift_demangle_stopped, swift_demangle_type, swift_demangle_type_stopped, swift_shape, swift_shape_stopped, swift_shape_type,
-    swift_shape_type_stopped,
+    cepruvels_demangle, cepruvels_demangle_stopped, cepruvels_demangle_type, cepruvels_demangle_type_stopped, cepruvels_shape,
+    cepruvels_shape_stopped, cepruvels_shape_type, cepruvels_shape_type_stopped,
 };
 
 #[derive(Clone, Copy, PartialEq, Eq, Hash, Debug)]
@@ -53,14 +53,14 @@ const DIRT: [u64; 6] = [0xDEAD_BEEF_0000_0001; 6];
 
 pub fn read(form: Form, text: &[u8], n: usize, w: &mut [u32], out: &mut [u8]) -> Answer {
     let mut a = DIRT;
-    let f = if form == Form::Symbol { swift_demangle } else { swift_demangle_type };
+    let f = if form == Form::Symbol { cepruvels_demangle } else { cepruvels_demangle_type };
     unsafe { f(text.as_ptr(), text.len(), n, w.as_mut_ptr(), w.len(), out.as_mut_ptr(), out.len(), a.as_mut_ptr()) };
     Answer::of(a)
 }
 
 pub fn check(form: Form, text: &[u8], n: usize, w: &mut [u32]) -> Answer {
     let mut a = DIRT;
-    let f = if form == Form::Symbol { swift_shape } else { swift_shape_type };
+    let f = if form == Form::Symbol { cepruvels_shape } else { cepruvels_shape_type };
     unsafe { f(text.as_ptr(), text.len(), n, w.as_mut_ptr(), w.len(), a.as_mut_ptr()) };
     Answer::of(a)
 }
@@ -68,10 +68,10 @@ pub fn check(form: Form, text: &[u8], n: usize, w: &mut [u32]) -> Answer {
 pub fn stopped(call: Call, form: Form, text: &[u8], n: usize, k: usize, w: &mut [u32], out: &mut [u32]) -> Answer {
     let mut a = DIRT;
     let f = match (call, form) {
-        (Call::Reading, Form::Symbol) => swift_demangle_stopped,
-        (Call::Reading, Form::Type) => swift_demangle_type_stopped,
-        (Call::Check, Form::Symbol) => swift_shape_stopped,
-        (Call::Check, Form::Type) => swift_shape_type_stopped,
+        (Call::Reading, Form::Symbol) => cepruvels_demangle_stopped,
+        (Call::Reading, Form::Type) => cepruvels_demangle_type_stopped,
+        (Call::Check, Form::Symbol) => cepruvels_shape_stopped,
+        (Call::Check, Form::Type) => cepruvels_shape_type_stopped,
     };
     unsafe { f(text.as_ptr(), text.len(), n, k, w.as_mut_ptr(), w.len(), out.as_mut_ptr(), out.len(), a.as_mut_ptr()) };
     Answer::of(a)

@@ -9,7 +9,7 @@
 //! ```
 //!
 //! The eight functions [`demangle`], [`demangle_type`], [`shape`], [`shape_type`] and their `_stopped` forms are the proved calls themselves,
-//! on memory that the caller lends. Each is total: it answers for every text, ceiling and length. `include/swift_demangle.h` says what they
+//! on memory that the caller lends. Each is total: it answers for every text, ceiling and length. `include/cepruvels.h` says what they
 //! take, write and answer, and the repository's `crates/definition` what that means.
 
 use std::fmt;
@@ -138,24 +138,24 @@ fn outcome(answer: [u64; 6]) -> Result<(Counts, usize), Refused> {
 
 /// Reads a symbol. The text is the part of `out` that is given back; nothing else of `out` is written, and nothing where it is refused.
 pub fn demangle<'o>(text: &[u8], ceiling: usize, workspace: &mut [u32], out: &'o mut [u8]) -> Result<(Counts, &'o [u8]), Refused> {
-    let (counts, length) = outcome(raw::read(raw::swift_demangle, text, ceiling, workspace, out))?;
+    let (counts, length) = outcome(raw::read(raw::cepruvels_demangle, text, ceiling, workspace, out))?;
     Ok((counts, &out[..length]))
 }
 
 /// Reads a type.
 pub fn demangle_type<'o>(text: &[u8], ceiling: usize, workspace: &mut [u32], out: &'o mut [u8]) -> Result<(Counts, &'o [u8]), Refused> {
-    let (counts, length) = outcome(raw::read(raw::swift_demangle_type, text, ceiling, workspace, out))?;
+    let (counts, length) = outcome(raw::read(raw::cepruvels_demangle_type, text, ceiling, workspace, out))?;
     Ok((counts, &out[..length]))
 }
 
 /// Checks a symbol's shape: it accepts and refuses as the reading does, with the same place and counts, and makes no text.
 pub fn shape(text: &[u8], ceiling: usize, workspace: &mut [u32]) -> Result<Counts, Refused> {
-    outcome(raw::check(raw::swift_shape, text, ceiling, workspace)).map(|(counts, _)| counts)
+    outcome(raw::check(raw::cepruvels_shape, text, ceiling, workspace)).map(|(counts, _)| counts)
 }
 
 /// Checks a type's shape.
 pub fn shape_type(text: &[u8], ceiling: usize, workspace: &mut [u32]) -> Result<Counts, Refused> {
-    outcome(raw::check(raw::swift_shape_type, text, ceiling, workspace)).map(|(counts, _)| counts)
+    outcome(raw::check(raw::cepruvels_shape_type, text, ceiling, workspace)).map(|(counts, _)| counts)
 }
 
 macro_rules! stopped {
@@ -171,22 +171,22 @@ macro_rules! stopped {
 stopped!(
     /// Reads a symbol's first `k` operators, or all where there are fewer, and gives the stack, bottom first: kind, size and count of each entry.
     demangle_stopped,
-    swift_demangle_stopped
+    cepruvels_demangle_stopped
 );
 stopped!(
     /// Reads a type's first `k` operators.
     demangle_type_stopped,
-    swift_demangle_type_stopped
+    cepruvels_demangle_type_stopped
 );
 stopped!(
     /// Checks the shape of a symbol's first `k` operators: the same stack as the reading's.
     shape_stopped,
-    swift_shape_stopped
+    cepruvels_shape_stopped
 );
 stopped!(
     /// Checks the shape of a type's first `k` operators.
     shape_type_stopped,
-    swift_shape_type_stopped
+    cepruvels_shape_type_stopped
 );
 
 type Reading = for<'o> fn(&[u8], usize, &mut [u32], &'o mut [u8]) -> Result<(Counts, &'o [u8]), Refused>;

@@ -5,11 +5,11 @@ type Check = unsafe extern "C" fn(*const u8, usize, usize, *mut u32, usize, *mut
 type Stopped = unsafe extern "C" fn(*const u8, usize, usize, usize, *mut u32, usize, *mut u32, usize, *mut u64);
 
 extern "C" {
-    pub fn swift_demangle(t: *const u8, tl: usize, n: usize, w: *mut u32, wl: usize, o: *mut u8, ol: usize, answer: *mut u64);
-    pub fn swift_demangle_type(t: *const u8, tl: usize, n: usize, w: *mut u32, wl: usize, o: *mut u8, ol: usize, answer: *mut u64);
-    pub fn swift_shape(t: *const u8, tl: usize, n: usize, w: *mut u32, wl: usize, answer: *mut u64);
-    pub fn swift_shape_type(t: *const u8, tl: usize, n: usize, w: *mut u32, wl: usize, answer: *mut u64);
-    pub fn swift_demangle_stopped(
+    pub fn cepruvels_demangle(t: *const u8, tl: usize, n: usize, w: *mut u32, wl: usize, o: *mut u8, ol: usize, answer: *mut u64);
+    pub fn cepruvels_demangle_type(t: *const u8, tl: usize, n: usize, w: *mut u32, wl: usize, o: *mut u8, ol: usize, answer: *mut u64);
+    pub fn cepruvels_shape(t: *const u8, tl: usize, n: usize, w: *mut u32, wl: usize, answer: *mut u64);
+    pub fn cepruvels_shape_type(t: *const u8, tl: usize, n: usize, w: *mut u32, wl: usize, answer: *mut u64);
+    pub fn cepruvels_demangle_stopped(
         t: *const u8,
         tl: usize,
         n: usize,
@@ -20,7 +20,7 @@ extern "C" {
         ol: usize,
         answer: *mut u64,
     );
-    pub fn swift_demangle_type_stopped(
+    pub fn cepruvels_demangle_type_stopped(
         t: *const u8,
         tl: usize,
         n: usize,
@@ -31,7 +31,7 @@ extern "C" {
         ol: usize,
         answer: *mut u64,
     );
-    pub fn swift_shape_stopped(
+    pub fn cepruvels_shape_stopped(
         t: *const u8,
         tl: usize,
         n: usize,
@@ -42,7 +42,7 @@ extern "C" {
         ol: usize,
         answer: *mut u64,
     );
-    pub fn swift_shape_type_stopped(
+    pub fn cepruvels_shape_type_stopped(
         t: *const u8,
         tl: usize,
         n: usize,

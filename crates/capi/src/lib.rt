@@ -7,7 +7,7 @@ ghost use Rattle.values.specs.Told.{Told};
 
 // Reads a symbol.
 #[no_mangle]
-pub extern "C" fn swift_demangle(
+pub extern "C" fn cepruvels_demangle(
     text: &[u8],
     ceiling: usize,
     workspace: &mut [u32],
@@ -22,7 +22,7 @@ pub extern "C" fn swift_demangle(
 
 // Reads a type.
 #[no_mangle]
-pub extern "C" fn swift_demangle_type(
+pub extern "C" fn cepruvels_demangle_type(
     text: &[u8],
     ceiling: usize,
     workspace: &mut [u32],
@@ -37,7 +37,7 @@ pub extern "C" fn swift_demangle_type(
 
 // Reads a symbol's first k operators.
 #[no_mangle]
-pub extern "C" fn swift_demangle_stopped(
+pub extern "C" fn cepruvels_demangle_stopped(
     text: &[u8],
     ceiling: usize,
     k: usize,
@@ -53,7 +53,7 @@ pub extern "C" fn swift_demangle_stopped(
 
 // Reads a type's first k operators.
 #[no_mangle]
-pub extern "C" fn swift_demangle_type_stopped(
+pub extern "C" fn cepruvels_demangle_type_stopped(
     text: &[u8],
     ceiling: usize,
     k: usize,

@@ -9,7 +9,7 @@ ghost use Rattle.values.specs.Told.{Told};
 
 // Checks the shape of a symbol.
 #[no_mangle]
-pub extern "C" fn swift_shape(
+pub extern "C" fn cepruvels_shape(
     text: &[u8],
     ceiling: usize,
     workspace: &mut [u32],
@@ -23,7 +23,7 @@ pub extern "C" fn swift_shape(
 
 // Checks the shape of a type.
 #[no_mangle]
-pub extern "C" fn swift_shape_type(
+pub extern "C" fn cepruvels_shape_type(
     text: &[u8],
     ceiling: usize,
     workspace: &mut [u32],
@@ -37,7 +37,7 @@ pub extern "C" fn swift_shape_type(
 
 // Checks a symbol's first k operators.
 #[no_mangle]
-pub extern "C" fn swift_shape_stopped(
+pub extern "C" fn cepruvels_shape_stopped(
     text: &[u8],
     ceiling: usize,
     k: usize,
@@ -53,7 +53,7 @@ pub extern "C" fn swift_shape_stopped(
 
 // Checks a type's first k operators.
 #[no_mangle]
-pub extern "C" fn swift_shape_type_stopped(
+pub extern "C" fn cepruvels_shape_type_stopped(
     text: &[u8],
     ceiling: usize,
     k: usize,

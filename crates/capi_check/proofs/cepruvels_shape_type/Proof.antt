@@ -3,10 +3,10 @@ use Rattle.definition.specs.Calls.{Values}
 use Rattle.values.specs.Six.{six}
 use Rattle.endings.proofs.Telling.{scratch-told}
 use borrow.Author.Needs.{needs}
-use Rattle.capi_check.proofs.swift_shape_type.Statement.{statement}
-use Rattle.capi_check.proofs.swift_shape_type.Tie as tie
-use Rattle.capi_check.proofs.swift_shape_type.Reads as reads
-use Rattle.capi_check.proofs.swift_shape_type.Lts as lts
+use Rattle.capi_check.proofs.cepruvels_shape_type.Statement.{statement}
+use Rattle.capi_check.proofs.cepruvels_shape_type.Tie as tie
+use Rattle.capi_check.proofs.cepruvels_shape_type.Reads as reads
+use Rattle.capi_check.proofs.cepruvels_shape_type.Lts as lts
 use Rattle.values.proofs.numbers.Reads as numbers-reads
 use Rattle.swift_shape.proofs.shape_type.Reads as shape-type-reads
 
@@ -26,6 +26,6 @@ same-length c = search needs
 returns : tie.Need-returns
 returns c = (c .numbers .ensures ∙ ap six (c .before .before .before .shape-type .ensures .0), scratch-told (ap (λ (v : Values). v .number) (c .before .before .before .shape-type .ensures .0)) (c .before .before .before .shape-type .ensures .1))
 
-pub swift-shape-type-spec : {M : Type 1} → statement M
-swift-shape-type-spec =
+pub cepruvels-shape-type-spec : {M : Type 1} → statement M
+cepruvels-shape-type-spec =
     tie.close (tie.spec shape-type-requires numbers-requires same-length returns)

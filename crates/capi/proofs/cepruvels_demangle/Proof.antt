@@ -2,10 +2,10 @@ use mathlib.Core.Path.{ap}
 use Rattle.definition.specs.Calls.{Values}
 use Rattle.endings.proofs.Telling.{told, scratch-told}
 use borrow.Author.Needs.{needs}
-use Rattle.capi.proofs.swift_demangle.Statement.{statement}
-use Rattle.capi.proofs.swift_demangle.Tie as tie
-use Rattle.capi.proofs.swift_demangle.Reads as reads
-use Rattle.capi.proofs.swift_demangle.Lts as lts
+use Rattle.capi.proofs.cepruvels_demangle.Statement.{statement}
+use Rattle.capi.proofs.cepruvels_demangle.Tie as tie
+use Rattle.capi.proofs.cepruvels_demangle.Reads as reads
+use Rattle.capi.proofs.cepruvels_demangle.Lts as lts
 use Rattle.values.proofs.numbers.Reads as numbers-reads
 use Rattle.swift_demangle.proofs.demangle.Reads as demangle-reads
 
@@ -29,6 +29,6 @@ same-length-2 c = search needs
 returns : tie.Need-returns
 returns c = (told (c .before .before .before .before .before .demangle .ensures .0) (c .numbers .ensures), scratch-told (ap (λ (v : Values). v .number) (c .before .before .before .before .before .demangle .ensures .0 .values)) (c .before .before .before .before .before .demangle .ensures .1))
 
-pub swift-demangle-spec : {M : Type 1} → statement M
-swift-demangle-spec =
+pub cepruvels-demangle-spec : {M : Type 1} → statement M
+cepruvels-demangle-spec =
     tie.close (tie.spec demangle-requires numbers-requires same-length same-length-2 returns)

@@ -3,10 +3,10 @@ use Rattle.definition.specs.Calls.{Values}
 use Rattle.values.specs.Six.{six}
 use Rattle.endings.proofs.Telling.{scratch-told}
 use borrow.Author.Needs.{needs}
-use Rattle.capi_check.proofs.swift_shape.Statement.{statement}
-use Rattle.capi_check.proofs.swift_shape.Tie as tie
-use Rattle.capi_check.proofs.swift_shape.Reads as reads
-use Rattle.capi_check.proofs.swift_shape.Lts as lts
+use Rattle.capi_check.proofs.cepruvels_shape.Statement.{statement}
+use Rattle.capi_check.proofs.cepruvels_shape.Tie as tie
+use Rattle.capi_check.proofs.cepruvels_shape.Reads as reads
+use Rattle.capi_check.proofs.cepruvels_shape.Lts as lts
 use Rattle.values.proofs.numbers.Reads as numbers-reads
 use Rattle.swift_shape.proofs.shape.Reads as shape-reads
 
@@ -26,5 +26,5 @@ same-length c = search needs
 returns : tie.Need-returns
 returns c = (c .numbers .ensures ∙ ap six (c .before .before .before .shape .ensures .0), scratch-told (ap (λ (v : Values). v .number) (c .before .before .before .shape .ensures .0)) (c .before .before .before .shape .ensures .1))
 
-pub swift-shape-spec : {M : Type 1} → statement M
-swift-shape-spec = tie.close (tie.spec shape-requires numbers-requires same-length returns)
+pub cepruvels-shape-spec : {M : Type 1} → statement M
+cepruvels-shape-spec = tie.close (tie.spec shape-requires numbers-requires same-length returns)

@@ -2,10 +2,10 @@ use mathlib.Core.Path.{ap}
 use Rattle.definition.specs.Calls.{Values}
 use Rattle.endings.proofs.Telling.{told, scratch-told}
 use borrow.Author.Needs.{needs}
-use Rattle.capi_check.proofs.swift_shape_type_stopped.Statement.{statement}
-use Rattle.capi_check.proofs.swift_shape_type_stopped.Tie as tie
-use Rattle.capi_check.proofs.swift_shape_type_stopped.Reads as reads
-use Rattle.capi_check.proofs.swift_shape_type_stopped.Lts as lts
+use Rattle.capi_check.proofs.cepruvels_shape_type_stopped.Statement.{statement}
+use Rattle.capi_check.proofs.cepruvels_shape_type_stopped.Tie as tie
+use Rattle.capi_check.proofs.cepruvels_shape_type_stopped.Reads as reads
+use Rattle.capi_check.proofs.cepruvels_shape_type_stopped.Lts as lts
 use Rattle.values.proofs.numbers.Reads as numbers-reads
 use Rattle.swift_shape.proofs.shape_type_stopped.Reads as shape-type-stopped-reads
 
@@ -29,7 +29,7 @@ same-length-2 c = search needs
 returns : tie.Need-returns
 returns c = (told (c .before .before .before .before .before .shape-type-stopped .ensures .0) (c .numbers .ensures), scratch-told (ap (λ (v : Values). v .number) (c .before .before .before .before .before .shape-type-stopped .ensures .0 .values)) (c .before .before .before .before .before .shape-type-stopped .ensures .1))
 
-pub swift-shape-type-stopped-spec : {M : Type 1} → statement M
-swift-shape-type-stopped-spec =
+pub cepruvels-shape-type-stopped-spec : {M : Type 1} → statement M
+cepruvels-shape-type-stopped-spec =
     tie.close
     (tie.spec shape-type-stopped-requires numbers-requires same-length same-length-2 returns)

@@ -2,10 +2,10 @@ use mathlib.Core.Path.{ap}
 use Rattle.definition.specs.Calls.{Values}
 use Rattle.endings.proofs.Telling.{told, scratch-told}
 use borrow.Author.Needs.{needs}
-use Rattle.capi.proofs.swift_demangle_type.Statement.{statement}
-use Rattle.capi.proofs.swift_demangle_type.Tie as tie
-use Rattle.capi.proofs.swift_demangle_type.Reads as reads
-use Rattle.capi.proofs.swift_demangle_type.Lts as lts
+use Rattle.capi.proofs.cepruvels_demangle_type.Statement.{statement}
+use Rattle.capi.proofs.cepruvels_demangle_type.Tie as tie
+use Rattle.capi.proofs.cepruvels_demangle_type.Reads as reads
+use Rattle.capi.proofs.cepruvels_demangle_type.Lts as lts
 use Rattle.values.proofs.numbers.Reads as numbers-reads
 use Rattle.swift_demangle.proofs.demangle_type.Reads as demangle-type-reads
 
@@ -29,6 +29,6 @@ same-length-2 c = search needs
 returns : tie.Need-returns
 returns c = (told (c .before .before .before .before .before .demangle-type .ensures .0) (c .numbers .ensures), scratch-told (ap (λ (v : Values). v .number) (c .before .before .before .before .before .demangle-type .ensures .0 .values)) (c .before .before .before .before .before .demangle-type .ensures .1))
 
-pub swift-demangle-type-spec : {M : Type 1} → statement M
-swift-demangle-type-spec =
+pub cepruvels-demangle-type-spec : {M : Type 1} → statement M
+cepruvels-demangle-type-spec =
     tie.close (tie.spec demangle-type-requires numbers-requires same-length same-length-2 returns)

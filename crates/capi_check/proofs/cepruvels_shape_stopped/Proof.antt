@@ -2,10 +2,10 @@ use mathlib.Core.Path.{ap}
 use Rattle.definition.specs.Calls.{Values}
 use Rattle.endings.proofs.Telling.{told, scratch-told}
 use borrow.Author.Needs.{needs}
-use Rattle.capi_check.proofs.swift_shape_stopped.Statement.{statement}
-use Rattle.capi_check.proofs.swift_shape_stopped.Tie as tie
-use Rattle.capi_check.proofs.swift_shape_stopped.Reads as reads
-use Rattle.capi_check.proofs.swift_shape_stopped.Lts as lts
+use Rattle.capi_check.proofs.cepruvels_shape_stopped.Statement.{statement}
+use Rattle.capi_check.proofs.cepruvels_shape_stopped.Tie as tie
+use Rattle.capi_check.proofs.cepruvels_shape_stopped.Reads as reads
+use Rattle.capi_check.proofs.cepruvels_shape_stopped.Lts as lts
 use Rattle.values.proofs.numbers.Reads as numbers-reads
 use Rattle.swift_shape.proofs.shape_stopped.Reads as shape-stopped-reads
 
@@ -29,6 +29,6 @@ same-length-2 c = search needs
 returns : tie.Need-returns
 returns c = (told (c .before .before .before .before .before .shape-stopped .ensures .0) (c .numbers .ensures), scratch-told (ap (λ (v : Values). v .number) (c .before .before .before .before .before .shape-stopped .ensures .0 .values)) (c .before .before .before .before .before .shape-stopped .ensures .1))
 
-pub swift-shape-stopped-spec : {M : Type 1} → statement M
-swift-shape-stopped-spec =
+pub cepruvels-shape-stopped-spec : {M : Type 1} → statement M
+cepruvels-shape-stopped-spec =
     tie.close (tie.spec shape-stopped-requires numbers-requires same-length same-length-2 returns)
