@@ -1,5 +1,5 @@
-//! Names per second of the Rust, of Swift's own demangler and of ours, on one list, in one run; memory; and how time grows
-//! (compare/bench builds and starts it). What it prints goes into docs/SPEED.md.
+//! Names per second of the Rust, of Swift's own demanglers and of ours, on a made list and on real names, in one run; memory; and
+//! how time grows (compare/bench builds and starts it). What it prints goes into docs/SPEED.md.
 //!
 //! Times are of the processor, not of the clock on the wall, so that what else runs on the machine counts little. Each number is the median
 //! of five, taken in turn: every contender once, then every one again.
@@ -10,9 +10,13 @@ mod names;
 mod ours;
 mod own;
 mod random;
+mod six;
 
 use ours::Form;
+use random::Random;
+use six::Six;
 use std::hint::black_box;
+use std::sync::OnceLock;
 
 const ROUNDS: usize = 5;
 const NAMES: usize = 20_000;
@@ -20,7 +24,10 @@ const CEILING: usize = 256; // the program `names` reads with it
 const ROOM: usize = 16_384;
 const MOST: usize = 65_536;
 const NOTHING: &str = "/dev/null";
-const REPEATED: usize = 20; // how often the list stands in the file for the line filters
+const FIVE: &str = "Swift 5.5.1's own"; // the demangler that compare/swift/build builds
+const SHUFFLED_BY: u64 = 20261117; // the seed of the order in which the real names are read
+const MADE_REPEATED: usize = 20; // how often each list is repeated in the file for the line filters
+const REAL_REPEATED: usize = 4;
 
 #[repr(C)]
 struct Moment {
@@ -102,34 +109,95 @@ fn in_turn(work: &mut [Box<dyn FnMut() -> usize + '_>]) -> Vec<f64> {
 fn main() {
     let mut args = std::env::args().skip(1);
     match args.next().as_deref() {
-        Some("names") => println!("{}", list()),
+        Some("names") => println!("{}", names_of(&list()).join("\n")),
         Some("run") => measured(&args.collect::<Vec<_>>()),
         Some("one") => one(&args.next().unwrap(), &args.next().unwrap()),
-        Some("readings") => readings(&list().lines().collect::<Vec<_>>()),
+        Some("readings") => tables(&list(), &mut Real::of(&args.next().unwrap_or_default())),
         Some("all") => all(&args.collect::<Vec<_>>()),
         _ => {
-            eprintln!("usage: bench all FOLDER NAMES | bench readings | bench names");
+            eprintln!("usage: bench all BENCH FOLDER NAMES SWIFT6 HOW .. | bench readings [SWIFT6] | bench names");
             std::process::exit(2);
         }
     }
 }
 
-/// 20,000 names that the Rust and Swift's own demangler read and that charge at most 256, as the lines of one text, as a file has them:
-/// names that each have memory of their own would have every contender wait for it.
+/// Names as one text, each with a NUL after it: names that each have memory of their own would have every contender wait for it, and
+/// Swift 6's function looks for the NUL although it is given the length.
+fn joined(names: &[impl AsRef<str>]) -> String {
+    names.iter().map(|name| format!("{}\0", name.as_ref())).collect()
+}
+
+fn names_of(joined: &str) -> Vec<&str> {
+    joined.split_terminator('\0').collect()
+}
+
+/// 20,000 names that the Rust and Swift 5.5.1's own demangler read and that charge at most 256.
 fn list() -> String {
     let mut out = vec![0; 1 << 20];
-    names::names(NAMES, names::SEED, |text| swift_demangle::demangle(text).is_some() && own::demangle(text.as_bytes(), &mut out).is_some()).join("\n")
+    let good = |text: &str| swift_demangle::demangle(text).is_some() && own::demangle(text.as_bytes(), &mut out).is_some();
+    joined(&names::names(NAMES, names::SEED, good))
+}
+
+/// Swift 6's own demangler, and the real names that everybody reads.
+struct Real {
+    six: Six,
+    names: String,
+    /// How many there are, read or not.
+    all: usize,
+    /// The demangler as a program.
+    filter: String,
+}
+
+impl Real {
+    /// Of the folder that compare/swift/fetch sets up. The names are shuffled, so that no contender profits from neighbours in a sorted
+    /// list.
+    fn of(folder: &str) -> Result<Real, String> {
+        if folder.is_empty() {
+            return Err("it was not fetched".to_string());
+        }
+        let file = |name: &str| std::fs::read_to_string(format!("{folder}/{name}")).map_err(|e| format!("{folder}/{name}: {e}"));
+        let mut six = Six::open(file("version")?.split(" (").next().unwrap_or("").to_string())?;
+        let (mut ours, mut out) = (Ours::new(CEILING, ROOM), vec![0; 1 << 20]);
+        let all = joined(&file("names")?.lines().collect::<Vec<_>>());
+        let mut names: Vec<&str> = names_of(&all)
+            .into_iter()
+            .filter(|t| ours.read(Form::Symbol, t).number == 0 && swift_demangle::demangle(t).is_some())
+            .filter(|t| own::demangle(t.as_bytes(), &mut out).is_some() && six.reads(t))
+            .collect();
+        let mut random = Random::new(SHUFFLED_BY);
+        for last in (1..names.len()).rev() {
+            names.swap(last, random.below(last + 1));
+        }
+        Ok(Real { six, names: joined(&names), all: names_of(&all).len(), filter: format!("{folder}/bin/swift-demangle") })
+    }
 }
 
 fn all(args: &[String]) {
-    let [folder, program, how @ ..] = args else { panic!("folder and program") };
-    let list = list();
-    let list: Vec<&str> = list.lines().collect();
+    let [program, folder, names, swift6, how @ ..] = args else { panic!("program, folder, `names` and Swift 6's folder") };
+    ME.set(program.clone()).unwrap();
     println!("{}\n", machine(how));
-    readings(&list);
-    filters(&list, folder, program);
+    let (made, mut real) = (list(), Real::of(swift6));
+    tables(&made, &mut real);
+    filters("made names", &names_of(&made), MADE_REPEATED, folder, names, real.as_ref().ok());
+    if let Ok(real) = &real {
+        filters("real names", &names_of(&real.names), REAL_REPEATED, folder, names, Some(real));
+    }
     memory();
     growth();
+}
+
+/// Reading and check of both lists; of the made one alone where Swift 6 is not there.
+fn tables(made: &str, real: &mut Result<Real, String>) {
+    let about = "made by compare/src/grammar.rs from a fixed seed, all read by the Rust and by Swift 5.5.1";
+    readings("made names", about, &names_of(made), real.as_mut().ok().map(|real| &mut real.six));
+    match real {
+        Err(why) => println!("Real names were left out, since Swift 6 is not there ({why}): compare/swift/fetch sets it up.\n"),
+        Ok(Real { six, names, all, .. }) => {
+            let about =
+                format!("of the {} in the libraries and programs of {}, those that everybody reads", thousands(*all as f64), six.version);
+            readings("real names", &about, &names_of(names), Some(six));
+        }
+    }
 }
 
 fn machine(how: &[String]) -> String {
@@ -151,56 +219,85 @@ fn thousands(n: f64) -> String {
     out
 }
 
-fn readings(list: &[&str]) {
+/// A contender: what it is called, and its work, once through the list.
+type Contender<'a> = (String, Box<dyn FnMut() -> usize + 'a>);
+
+fn readings(title: &str, about: &str, list: &[&str], six: Option<&mut Six>) {
+    println!("## Reading and check: {title}\n");
+    let texts = judged(list);
+    describe(about, list, texts);
+    let (mut small, mut large, mut checking) = (Ours::new(CEILING, ROOM), Ours::new(MOST, ROOM), Ours::new(CEILING, 0));
+    let mut out = vec![0; 1 << 20];
+    let mut contenders: Vec<Contender> = vec![
+        ("the Rust".to_string(), Box::new(|| list.iter().map(|t| swift_demangle::demangle(t).map_or(0, |s| s.len())).sum())),
+        (FIVE.to_string(), Box::new(|| list.iter().map(|t| own::demangle(t.as_bytes(), &mut out).unwrap_or(0)).sum())),
+    ];
+    if let Some(six) = six {
+        let read = list.iter().filter(|t| six.reads(t)).count();
+        if read < list.len() {
+            println!("{} reads {} of them.\n", six.version, thousands(read as f64));
+        }
+        contenders.push((format!("{}'s own", six.version), Box::new(|| list.iter().map(|t| six.call(t) as usize).sum())));
+    }
+    let swifts = contenders.len();
+    contenders
+        .push(("our reading, N = 256".to_string(), Box::new(|| list.iter().map(|t| small.read(Form::Symbol, t).length as usize).sum())));
+    contenders
+        .push(("our reading, N = 65,536".to_string(), Box::new(|| list.iter().map(|t| large.read(Form::Symbol, t).length as usize).sum())));
+    contenders
+        .push(("our check, N = 256".to_string(), Box::new(|| list.iter().map(|t| checking.check(Form::Symbol, t).total as usize).sum())));
+    let (names, mut work): (Vec<String>, Vec<Box<dyn FnMut() -> usize>>) = contenders.into_iter().unzip();
+    let times = in_turn(&mut work);
+    let rate = |i: usize| list.len() as f64 / times[i];
+    let against: Vec<String> = names[..swifts].iter().map(|name| format!("× {name}")).collect();
+    println!("| | names per second | a name | {} |\n|---|---|---|{}", against.join(" | "), "---|".repeat(swifts));
+    for (i, what) in names.iter().enumerate() {
+        let ratios: Vec<String> = (0..swifts).map(|other| format!("{:.2}", rate(i) / rate(other))).collect();
+        println!("| {what} | {} | {:.0} ns | {} |", thousands(rate(i)), 1e9 / rate(i), ratios.join(" | "));
+    }
+    println!("\nThe check reads {:.2} × as many names a second as the reading.\n", rate(swifts + 2) / rate(swifts));
+}
+
+/// Holds our calls at N = 256 to the Rust on every name. Returns how many bytes the texts have together.
+fn judged(list: &[&str]) -> usize {
+    let mut ours = Ours::new(CEILING, ROOM);
+    let mut bytes = 0;
+    for t in list {
+        let a = ours.read(Form::Symbol, t);
+        assert_eq!(a.number, 0, "{t}");
+        assert_eq!(&ours.out[..a.length as usize], swift_demangle::demangle(t).unwrap().as_bytes(), "{t}");
+        assert_eq!(ours.check(Form::Symbol, t).number, 0, "{t}");
+        bytes += a.length as usize;
+    }
+    bytes
+}
+
+fn describe(about: &str, list: &[&str], texts: usize) {
     let mut lengths: Vec<usize> = list.iter().map(|t| t.len()).collect();
     lengths.sort();
-    let texts: usize = list.iter().map(|t| swift_demangle::demangle(t).unwrap().len()).sum();
     let mean = |n: usize| n as f64 / list.len() as f64;
-    let mut small = Ours::new(CEILING, ROOM);
-    for t in list {
-        let a = small.read(Form::Symbol, t);
-        assert_eq!(a.number, 0, "{t}");
-        assert_eq!(&small.out[..a.length as usize], swift_demangle::demangle(t).unwrap().as_bytes(), "{t}");
-        assert_eq!(small.check(Form::Symbol, t).number, 0, "{t}");
-    }
-    println!("## Reading and check\n");
     println!(
-        "{} names of {} to {} bytes, median {}, mean {:.1}; their texts have {:.1} bytes in the mean.\n",
-        list.len(),
+        "{} names, {about}: {} to {} bytes, median {}, mean {:.1}; their texts have {:.1} bytes in the mean.\n",
+        thousands(list.len() as f64),
         lengths[0],
         lengths[lengths.len() - 1],
         lengths[lengths.len() / 2],
         mean(lengths.iter().sum()),
         mean(texts)
     );
-    let mut checking = Ours::new(CEILING, 0);
-    let mut large = Ours::new(MOST, ROOM);
-    let mut out = vec![0; 1 << 20];
-    let mut work: Vec<Box<dyn FnMut() -> usize>> = vec![
-        Box::new(|| list.iter().map(|t| swift_demangle::demangle(t).map_or(0, |s| s.len())).sum()),
-        Box::new(|| list.iter().map(|t| own::demangle(t.as_bytes(), &mut out).unwrap_or(0)).sum()),
-        Box::new(|| list.iter().map(|t| small.read(Form::Symbol, t).length as usize).sum()),
-        Box::new(|| list.iter().map(|t| large.read(Form::Symbol, t).length as usize).sum()),
-        Box::new(|| list.iter().map(|t| checking.check(Form::Symbol, t).total as usize).sum()),
-    ];
-    let times = in_turn(&mut work);
-    let rate = |i: usize| list.len() as f64 / times[i];
-    println!("| | names per second | a name | × the Rust | × Swift's own |\n|---|---|---|---|---|");
-    for (i, what) in
-        ["the Rust, `demangle`", "Swift's own demangler", "our reading, N = 256", "our reading, N = 65,536", "our check, N = 256"]
-            .iter()
-            .enumerate()
-    {
-        println!("| {what} | {} | {:.0} ns | {:.2} | {:.2} |", thousands(rate(i)), 1e9 / rate(i), rate(i) / rate(0), rate(i) / rate(1));
-    }
-    println!("\nThe check reads {:.2} × as many names a second as the reading.\n", rate(4) / rate(2));
+}
+
+/// This program's path, as it was given: where Swift's loader runs it, the system says that it is the loader.
+static ME: OnceLock<String> = OnceLock::new();
+
+fn me() -> &'static str {
+    ME.get().unwrap()
 }
 
 /// Seconds of processor time and the most memory in kilobytes of a program run on a file. A small process starts it and measures: what
 /// the system says of a process begins with what the one that started it had.
 fn run(program: &str, args: &[&str], input: &str, output: &str) -> Option<(f64, i64)> {
-    let me = std::env::current_exe().unwrap();
-    let said = std::process::Command::new(me).args(["run", input, output, program]).args(args).output().unwrap().stdout;
+    let said = std::process::Command::new(me()).args(["run", input, output, program]).args(args).output().unwrap().stdout;
     let said = String::from_utf8(said).unwrap();
     let mut numbers = said.split_whitespace();
     Some((numbers.next()?.parse().ok()?, numbers.next()?.parse().ok()?))
@@ -220,44 +317,44 @@ fn measured(args: &[String]) {
     }
 }
 
-fn filters(list: &[&str], folder: &str, program: &str) {
+fn filters(title: &str, list: &[&str], repeated: usize, folder: &str, program: &str, real: Option<&Real>) {
     let input = format!("{folder}/names.in");
-    let text = list.join("\n") + "\n";
-    std::fs::write(&input, text.repeat(REPEATED)).unwrap();
-    let contenders = [
-        ("the Rust's line filter", format!("{folder}/filter")),
-        ("Swift's own line filter", format!("{folder}/swift/swift-filter")),
-        ("our program `names`", program.to_string()),
-    ];
+    std::fs::write(&input, (list.join("\n") + "\n").repeat(repeated)).unwrap();
+    let rust = format!("{folder}/filter");
+    let mut contenders =
+        vec![("the Rust's".to_string(), rust.clone(), vec![]), (FIVE.to_string(), format!("{folder}/swift/swift-filter"), vec![])];
+    if let Some(Real { six, filter, .. }) = real {
+        contenders.push((format!("{}'s own `swift-demangle -compact`", six.version), filter.clone(), vec!["-compact"]));
+    }
+    contenders.push(("our program `names`".to_string(), program.to_string(), vec![]));
+    let lines = (list.len() * repeated) as f64;
     println!(
-        "## Line filters\n\nA file of {} lines (the list {REPEATED} times) to /dev/null: processor time with the system's share.\n",
-        thousands((list.len() * REPEATED) as f64)
+        "## Line filters: {title}\n\nA file of {} lines (the list {repeated} times) to /dev/null: processor time with the system's share.\n",
+        thousands(lines)
     );
     let mut times: Vec<Vec<(f64, i64)>> = vec![Vec::new(); contenders.len()];
     for _ in 0..ROUNDS {
-        for (i, (_, path)) in contenders.iter().enumerate() {
-            times[i].extend(run(path, &[], &input, NOTHING));
+        for (i, (_, path, args)) in contenders.iter().enumerate() {
+            times[i].extend(run(path, args, &input, NOTHING));
         }
     }
-    let rate = |i: usize| (list.len() * REPEATED) as f64 / median(times[i].iter().map(|t| t.0).collect());
-    println!("| | names per second | × the Rust | × Swift's own | most memory |\n|---|---|---|---|---|");
-    for (i, (what, _)) in contenders.iter().enumerate() {
-        if times[i].len() < ROUNDS {
-            println!("| {what} | not there | | | |");
+    let there = |i: usize| times[i].len() == ROUNDS;
+    let rate = |i: usize| if there(i) { lines / median(times[i].iter().map(|t| t.0).collect()) } else { f64::NAN };
+    let others = contenders.len() - 1;
+    let against: Vec<String> = contenders[..others].iter().map(|(name, ..)| format!("× {name}")).collect();
+    println!("| | names per second | {} | most memory |\n|---|---|{}---|", against.join(" | "), "---|".repeat(others));
+    for (i, (what, ..)) in contenders.iter().enumerate() {
+        if !there(i) {
+            println!("| {what} | not there |{}", " |".repeat(others + 1));
             continue;
         }
+        let ratios: Vec<String> = (0..others).map(|other| format!("{:.2}", rate(i) / rate(other))).collect();
         let memory = times[i].iter().map(|t| t.1).max().unwrap();
-        println!(
-            "| {what} | {} | {:.2} | {:.2} | {} KB |",
-            thousands(rate(i)),
-            rate(i) / rate(0),
-            rate(i) / rate(1),
-            thousands(memory as f64)
-        );
+        println!("| {what} | {} | {} | {} KB |", thousands(rate(i)), ratios.join(" | "), thousands(memory as f64));
     }
     // what is written must be what the Rust writes
     let (a, b) = (format!("{folder}/names.rust"), format!("{folder}/names.ours"));
-    if run(&contenders[0].1, &[], &input, &a).is_some() && run(program, &[], &input, &b).is_some() {
+    if run(&rust, &[], &input, &a).is_some() && run(program, &[], &input, &b).is_some() {
         let same = std::fs::read(&a).unwrap() == std::fs::read(&b).unwrap();
         println!("\nThe program `names` and the Rust's filter write {}.", if same { "the same bytes" } else { "DIFFERENT bytes" });
     }
@@ -314,7 +411,7 @@ fn growth() {
     let mut checking = Ours::new(MOST, 0);
     let mut out = vec![0; 4 << 20];
     for (name, what, sizes, make) in series() {
-        println!("### {name}: {what}\n\n| {name} | bytes | text | the Rust | Swift's own | our reading | our check | reading, ns a byte |\n|---|---|---|---|---|---|---|---|");
+        println!("### {name}: {what}\n\n| {name} | bytes | text | the Rust | {FIVE} | our reading | our check | reading, ns a byte |\n|---|---|---|---|---|---|---|---|");
         let mut before: Option<Vec<Option<f64>>> = None;
         for n in sizes {
             let text = make(n);
@@ -373,10 +470,11 @@ fn one(who: &str, text: &str) {
 
 fn memory() {
     println!("## Memory\n\nKilobytes that one name takes beyond the program itself, in a process of its own; ours with the workspace that it is lent.\n");
-    println!("| name | the Rust | Swift's own | ours, N = 256 | ours, N = 65,536 |\n|---|---|---|---|---|");
-    let me = std::env::current_exe().unwrap();
-    let me = me.to_str().unwrap();
-    let base = run(me, &["one", "none", ""], NOTHING, NOTHING).unwrap().1;
+    println!("| name | the Rust | {FIVE} | ours, N = 256 | ours, N = 65,536 |\n|---|---|---|---|---|");
+    // the least of the rounds: what the system counts beside the name differs from run to run
+    let least =
+        |who: &str, text: &str| (0..ROUNDS).filter_map(|_| run(me(), &["one", who, text], NOTHING, NOTHING)).map(|(_, kb)| kb).min();
+    let base = least("none", "").unwrap();
     for (what, text) in [
         ("`$s4main3fooyyF`", "$s4main3fooyyF".to_string()),
         ("`static` 4,000 times", format!("$s1a1bSivp{}", "Z".repeat(4000))),
@@ -385,10 +483,7 @@ fn memory() {
         ("100,000 generic parameters", "$sr99998_l".to_string()),
         ("30,000 copies in a tuple, remembered 40 times", format!("$s1a1b1a1bV_A30000Etvp{}", "AAO".repeat(40))),
     ] {
-        let cell = |who: &str| {
-            run(me, &["one", who, &text], NOTHING, NOTHING)
-                .map_or("ends the process".to_string(), |(_, kb)| thousands((kb - base).max(0) as f64))
-        };
+        let cell = |who: &str| least(who, &text).map_or("ends the process".to_string(), |kb| thousands((kb - base).max(0) as f64));
         println!("| {what} | {} | {} | {} | {} |", cell("rust"), cell("swift"), cell("256"), cell("65536"));
     }
     println!();

@@ -9,6 +9,9 @@ const MOST_TEXT: usize = 65_535;
 const GUARD: usize = 64;
 /// Texts longer than this are not asked for: our calls are then judged by 12 and by the check alone.
 const MOST_OUT: usize = 64 << 20;
+/// The ceiling of the programs `names` and `shapes`, and the room that `names` has for a text.
+const NAMES_CEILING: usize = 256;
+const NAMES_ROOM: usize = 16_384;
 
 /// What the Rust made of a text.
 pub enum Rust {
@@ -77,7 +80,9 @@ fn kept<T: PartialEq>(dirt: &[T], from: usize, laid: &[T], start: usize) -> bool
     true
 }
 
-type Verdict<T> = Result<T, String>;
+pub type Verdict<T> = Result<T, String>;
+/// The answer of a stopped run, and its stack.
+type Stopped = (Answer, Vec<u32>);
 
 fn must(holds: bool, say: impl FnOnce() -> String) -> Verdict<()> {
     if holds {
@@ -296,7 +301,7 @@ impl Judge {
     }
 
     /// Reading and check stopped after k, with the same room: the same answer and the same stack. Answers it and the stack.
-    fn both_stopped(&mut self, form: Form, text: &[u8], n: usize, k: usize, room: usize) -> Verdict<(Answer, Vec<u32>)> {
+    fn both_stopped(&mut self, form: Form, text: &[u8], n: usize, k: usize, room: usize) -> Verdict<Stopped> {
         let a = self.stopped(Call::Reading, form, text, n, k, room)?;
         let stack = self.stack[..a.length as usize].to_vec();
         let b = self.stopped(Call::Check, form, text, n, k, room)?;
@@ -305,6 +310,34 @@ impl Judge {
             format!("stopped with N = {n}, k = {k}: the reading's stack is {stack:?}, the check's {:?}", &self.stack[..a.length as usize])
         })?;
         Ok((a, stack))
+    }
+
+    /// Whole reading and whole check with a ceiling, held against each other, against the Rust's text
+    /// and against the check with N = 65,536: accepted where its charged total fits, else 7; a refusal
+    /// stays or becomes 7 at no later place. Returns the reading's answer and the check's.
+    fn both_whole(&mut self, form: Form, text: &[u8], rust: &Rust, at_most: Answer, n: usize, room: usize) -> Verdict<(Answer, Answer)> {
+        let w = self.enough(Call::Reading, n);
+        let a = self.read(form, text, n, w, room)?;
+        let w = self.enough(Call::Check, n);
+        let c = self.check(form, text, n, w)?;
+        self.as_instrumented(form, text, rust, Run { n, k: None, room: 0 }, c, &[])?;
+        let say = || format!("with N = 65,536 {at_most:?}; with N = {n} and room for {room} the reading answers {a:?}, the check {c:?}");
+        if at_most.number == 0 {
+            let fits = at_most.total as usize <= n;
+            must(if fits { c == at_most } else { c.number == 7 }, say)?;
+        } else {
+            must(c == at_most || c.number == 7 && (c.place <= at_most.place || at_most.number == 7), say)?;
+        }
+        must(if a.number == 12 { c.number == 0 } else { Answer { length: 0, ..a } == c }, say)?;
+        if let Rust::Text(t) = rust {
+            if c.number == 0 && t.len() <= MOST_OUT {
+                must(a.number == if room >= t.len() { 0 } else { 12 }, || format!("the Rust's text has {} bytes; {}", t.len(), say()))?;
+                must(a.number == 12 || written(&self.out, a) == t.as_bytes(), || {
+                    format!("with N = {n} the Rust reads {t:?}, ours {:?}", String::from_utf8_lossy(written(&self.out, a)))
+                })?;
+            }
+        }
+        Ok((a, c))
     }
 
     /// All of it for one text. Answers the number at N = 65,536.
@@ -377,7 +410,7 @@ impl Judge {
             must(a.steps as usize == k, || format!("stopped after k = {k}: {a:?}"))?;
         }
 
-        // other ceilings: accepted where the charged total fits, else 7; a refusal stays or becomes 7 at no later place
+        // other ceilings
         if refused_early(Call::Check, form, text, 1, usize::MAX).is_some() {
             let (n, room) = (1 + self.r.below(30), self.r.below(30));
             let w = self.enough(Call::Reading, n);
@@ -402,31 +435,7 @@ impl Judge {
                 2 => length.saturating_sub(1),
                 _ => self.r.below(length + 2),
             };
-            let w = self.enough(Call::Reading, n);
-            let a = self.read(form, text, n, w, room)?;
-            let w = self.enough(Call::Check, n);
-            let c = self.check(form, text, n, w)?;
-            self.as_instrumented(form, text, rust, Run { n, k: None, room: 0 }, c, &[])?;
-            let say = || {
-                format!(
-                    "with N = 65,536 {checked:?}; with N = {n} and room for {room} of {length} the reading answers {a:?}, the check {c:?}"
-                )
-            };
-            if checked.number == 0 {
-                let fits = checked.total as usize <= n;
-                must(if fits { c == checked } else { c.number == 7 }, say)?;
-            } else {
-                must(c == checked || c.number == 7 && (c.place <= checked.place || checked.number == 7), say)?;
-            }
-            must(if a.number == 12 { c.number == 0 } else { Answer { length: 0, ..a } == c }, say)?;
-            if let Rust::Text(t) = rust {
-                if c.number == 0 && t.len() <= MOST_OUT {
-                    must(a.number == if room >= t.len() { 0 } else { 12 }, say)?;
-                    must(a.number == 12 || written(&self.out, a) == t.as_bytes(), || {
-                        format!("with N = {n} the Rust reads {t:?}, ours {:?}", String::from_utf8_lossy(written(&self.out, a)))
-                    })?;
-                }
-            }
+            self.both_whole(form, text, rust, checked, n, room)?;
         }
 
         // ceilings and workspaces that are refused
@@ -442,6 +451,42 @@ impl Judge {
             self.check(form, text, n, few)?;
         }
         Ok(at_most.map_or(0, |a| a.number))
+    }
+
+    /// Reading and check with the ceiling of the program `names`: whole, and stopped after every k
+    /// until the run is refused or the body's end is reached. A larger k then changes nothing, and
+    /// that end is the one of the whole check. Returns the number of the whole reading.
+    pub fn every_k(&mut self, form: Form, text: &[u8], rust: &Rust) -> Verdict<u64> {
+        let at_most = self.check_at_most(form, text)?;
+        let (read, checked) = self.both_whole(form, text, rust, at_most, NAMES_CEILING, NAMES_ROOM)?;
+        let mut k = 0;
+        let mut run = self.stopped_as_names(form, text, rust, k)?;
+        while run.0.number == 0 && run.0.steps as usize == k {
+            k += 1;
+            let next = self.stopped_as_names(form, text, rust, k)?;
+            must(next.0.number != 0 || next.0.steps as usize == k || next == run, || not_as_before(k - 1, &run, k, &next))?;
+            run = next;
+        }
+        for more in [k + 1, usize::MAX] {
+            let again = self.stopped_as_names(form, text, rust, more)?;
+            must(again == run, || not_as_before(k, &run, more, &again))?;
+        }
+        let (end, _) = run;
+        let fits = match checked.number {
+            0 => end == Answer { length: 3, ..checked },
+            11 => end.number == 0,
+            _ => end == checked,
+        };
+        must(fits, || format!("with N = {NAMES_CEILING} the check answers {checked:?}, and stopped after k = {k} {end:?}"))?;
+        Ok(read.number)
+    }
+
+    /// Both calls stopped after k, with the ceiling of the program `names` and room for any stack.
+    fn stopped_as_names(&mut self, form: Form, text: &[u8], rust: &Rust, k: usize) -> Verdict<Stopped> {
+        let (n, room) = (NAMES_CEILING, 3 * NAMES_CEILING);
+        let (a, stack) = self.both_stopped(form, text, n, k, room)?;
+        self.as_instrumented(form, text, rust, Run { n, k: Some(k), room }, a, &stack)?;
+        Ok((a, stack))
     }
 }
 
@@ -483,6 +528,10 @@ impl Judge {
     fn as_instrumented(&self, _: Form, _: &[u8], _: &Rust, _: Run, _: Answer, _: &[u32]) -> Verdict<()> {
         Ok(())
     }
+}
+
+fn not_as_before(k: usize, run: &Stopped, more: usize, again: &Stopped) -> String {
+    format!("stopped with N = {NAMES_CEILING} after k = {k}: {run:?}, and after k = {more}: {again:?}, though the run had ended")
 }
 
 fn written(out: &[u8], a: Answer) -> &[u8] {

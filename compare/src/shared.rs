@@ -9,12 +9,14 @@ extern "C" {
     fn kill(pid: i32, signal: i32) -> i32;
     fn _exit(status: i32) -> !;
     fn setrlimit(what: i32, limit: *const [u64; 2]) -> i32;
+    fn prctl(what: i32, value: u64) -> i32;
     fn open(path: *const u8, flags: i32) -> i32;
     fn dup2(from: i32, to: i32) -> i32;
 }
 
 pub const WORKERS: usize = 64;
-pub const OPERATORS: usize = 256;
+/// How many counters a program has for what only it counts.
+pub const OWN: usize = 256;
 const TEXT: usize = 1 << 17;
 
 #[derive(Clone, Copy, PartialEq, Eq, Debug)]
@@ -45,7 +47,8 @@ pub struct Counts {
     pub with_numbers: AtomicU64,
     pub panicked: AtomicU64,
     pub numbers: [AtomicU64; 13],
-    pub operators: [AtomicU64; OPERATORS],
+    /// What only one of the programs counts.
+    pub own: [AtomicU64; OWN],
 }
 
 #[repr(C)]
@@ -139,8 +142,11 @@ pub fn start(worker: usize, most_memory: u64, work: impl FnOnce() + Send) -> i32
             return pid;
         }
         ME = worker;
+        const SIGNAL_WHEN_THE_PARENT_ENDS: i32 = 1;
+        const KILL: u64 = 9;
         const ADDRESS_SPACE: i32 = 9;
         const CORE: i32 = 4;
+        prctl(SIGNAL_WHEN_THE_PARENT_ENDS, KILL);
         setrlimit(ADDRESS_SPACE, &[most_memory, most_memory]);
         setrlimit(CORE, &[0, 0]);
         dup2(open(b"/dev/null\0".as_ptr(), 1), 2);

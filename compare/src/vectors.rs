@@ -10,13 +10,14 @@
 
 mod grammar;
 mod mangle;
+mod operators;
 mod ours;
 mod random;
 mod texts;
 
 use grammar::{Grammar, Profile};
 use ours::{numbers_a_node, Call, Form};
-use std::collections::HashSet;
+use std::collections::{HashMap, HashSet};
 use std::io::BufRead;
 
 const MOST: usize = 65_536;
@@ -25,6 +26,13 @@ const MOST: usize = 65_536;
 /// Readings with N = 65,536 are compared by `compare/run`.
 const LENT: usize = 16_384;
 const ROOM: usize = 4096;
+
+/// Names from declarations, a row a line: section, declaration, mangled name, the Rust's text,
+/// Swift's own text where it differs; tabs between (compare/declared makes them).
+const ROWS: &str = include_str!("../declarations/rows");
+
+/// The ceiling of their cases, that of the program `names`.
+const DECLARED: usize = 256;
 
 #[derive(Clone, PartialEq, Eq, Hash)]
 struct Case {
@@ -38,6 +46,12 @@ struct Case {
 }
 
 impl Case {
+    fn whole(call: Call, form: Form, ceiling: usize, room: usize, text: &[u8]) -> Case {
+        let workspace = numbers_a_node(call) * ceiling;
+        let room = if call == Call::Check { 0 } else { room };
+        Case { call, form, ceiling, k: None, workspace, room, text: text.to_vec() }
+    }
+
     fn number(&self) -> usize {
         4 * self.k.is_some() as usize + 2 * (self.call == Call::Check) as usize + (self.form == Form::Type) as usize
     }
@@ -162,6 +176,20 @@ fn check(cases: &str, answers: &str) {
         assert!(expected, "{line}\n{answer}\nthe Rust: {theirs:?}");
     }
     println!("{} cases, by call {calls:?}, by number {numbers:?}; the Rust was asked about {asked} and agrees", cases.lines().count());
+    check_rows(&cases.lines().zip(answers.lines()).collect());
+}
+
+/// The unchanged Rust asked again about the names from declarations: a row has its text, and so has
+/// the answer to the name's case.
+fn check_rows(answers: &HashMap<&str, &str>) {
+    for (name, text) in rows() {
+        assert_eq!(swift_demangle::demangle(name).as_deref(), Some(text), "the text of {name} by the Rust and in the row");
+        let line = Case::whole(Call::Reading, Form::Symbol, DECLARED, ROOM, name.as_bytes()).line();
+        let answer = answers.get(line.as_str()).unwrap_or_else(|| panic!("no case: {line}"));
+        let front = format!("0 0 {} ", operators_in(name));
+        assert!(answer.starts_with(&front) && answer.ends_with(&format!("\t{}", hex(text.as_bytes()))), "{name}: {answer}");
+    }
+    println!("{} names from declarations have the Rust's text, in their rows and in the answers", rows().count());
 }
 
 /// A number with more than six digits: the Rust may want more memory than there is.
@@ -187,9 +215,7 @@ impl List {
     }
 
     fn whole(&mut self, call: Call, form: Form, ceiling: usize, room: usize, text: &[u8]) {
-        let workspace = numbers_a_node(call) * ceiling;
-        let room = if call == Call::Check { 0 } else { room };
-        self.add(Case { call, form, ceiling, k: None, workspace, room, text: text.to_vec() });
+        self.add(Case::whole(call, form, ceiling, room, text));
     }
 
     fn stopped(&mut self, call: Call, form: Form, ceiling: usize, k: usize, room: usize, text: &[u8]) {
@@ -218,6 +244,7 @@ fn cases() -> Vec<Case> {
     rooms_and_ceilings(&mut l);
     every_operator(&mut l);
     drawn(&mut l);
+    declared(&mut l);
     l.all
 }
 
@@ -685,5 +712,26 @@ fn drawn(l: &mut List) {
             1 => l.both(text.form, 1 + i % 90, &text.bytes),
             _ => l.both_stopped(text.form, 256, k, &text.bytes),
         }
+    }
+}
+
+/// Names and texts of the rows.
+fn rows() -> impl Iterator<Item = (&'static str, &'static str)> {
+    ROWS.lines().map(|line| {
+        let parts: Vec<&str> = line.split('\t').collect();
+        let [_, _, name, text, _] = parts[..] else { panic!("no row: {line}") };
+        (name, text)
+    })
+}
+
+fn operators_in(name: &str) -> usize {
+    operators::body_of(name).and_then(operators::operators_of).map_or(0, |all| all.len())
+}
+
+/// Names that Swift's own compiler gave to declarations, whole and stopped in the middle.
+fn declared(l: &mut List) {
+    for (name, _) in rows() {
+        l.both(Form::Symbol, DECLARED, name.as_bytes());
+        l.both_stopped(Form::Symbol, DECLARED, operators_in(name) / 2, name.as_bytes());
     }
 }
