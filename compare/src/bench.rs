@@ -1,8 +1,10 @@
-//! Names per second of the Rust, of Swift's own demanglers and of ours, on a made list and on real names, in one run; memory; and
-//! how time grows (compare/bench builds and starts it). What it prints goes into docs/SPEED.md.
+//! Names per second of the Rust, of Swift's own demanglers and of ours, on a made list and on real
+//! names, in one run; memory; and how time grows (compare/bench builds and starts it). What it
+//! prints goes into docs/SPEED.md.
 //!
-//! Times are of the processor, not of the clock on the wall, so that what else runs on the machine counts little. Each number is the median
-//! of five, taken in turn: every contender once, then every one again.
+//! Times are of the processor, not of the clock on the wall, so that what else runs on the machine
+//! counts little. Each number is the median of five, taken in turn: every contender once, then
+//! every one again.
 
 mod grammar;
 mod mangle;
@@ -121,8 +123,9 @@ fn main() {
     }
 }
 
-/// Names as one text, each with a NUL after it: names that each have memory of their own would have every contender wait for it, and
-/// Swift 6's function looks for the NUL although it is given the length.
+/// Names as one text, each with a NUL after it: names that each have memory of their own would have
+/// every contender wait for it, and Swift 6's function looks for the NUL although it is given the
+/// length.
 fn joined(names: &[impl AsRef<str>]) -> String {
     names.iter().map(|name| format!("{}\0", name.as_ref())).collect()
 }
@@ -149,8 +152,8 @@ struct Real {
 }
 
 impl Real {
-    /// Of the folder that compare/swift/fetch sets up. The names are shuffled, so that no contender profits from neighbours in a sorted
-    /// list.
+    /// Of the folder that compare/swift/fetch sets up. The names are shuffled, so that no contender
+    /// profits from neighbours in a sorted list.
     fn of(folder: &str) -> Result<Real, String> {
         if folder.is_empty() {
             return Err("it was not fetched".to_string());
@@ -239,7 +242,7 @@ fn readings(title: &str, about: &str, list: &[&str], six: Option<&mut Six>) {
         }
         contenders.push((format!("{}'s own", six.version), Box::new(|| list.iter().map(|t| six.call(t) as usize).sum())));
     }
-    let swifts = contenders.len();
+    let others = contenders.len();
     contenders
         .push(("our reading, N = 256".to_string(), Box::new(|| list.iter().map(|t| small.read(Form::Symbol, t).length as usize).sum())));
     contenders
@@ -249,16 +252,17 @@ fn readings(title: &str, about: &str, list: &[&str], six: Option<&mut Six>) {
     let (names, mut work): (Vec<String>, Vec<Box<dyn FnMut() -> usize>>) = contenders.into_iter().unzip();
     let times = in_turn(&mut work);
     let rate = |i: usize| list.len() as f64 / times[i];
-    let against: Vec<String> = names[..swifts].iter().map(|name| format!("× {name}")).collect();
-    println!("| | names per second | a name | {} |\n|---|---|---|{}", against.join(" | "), "---|".repeat(swifts));
+    let against: Vec<String> = names[..others].iter().map(|name| format!("× {name}")).collect();
+    println!("| | names per second | a name | {} |\n|---|---|---|{}", against.join(" | "), "---|".repeat(others));
     for (i, what) in names.iter().enumerate() {
-        let ratios: Vec<String> = (0..swifts).map(|other| format!("{:.2}", rate(i) / rate(other))).collect();
+        let ratios: Vec<String> = (0..others).map(|other| format!("{:.2}", rate(i) / rate(other))).collect();
         println!("| {what} | {} | {:.0} ns | {} |", thousands(rate(i)), 1e9 / rate(i), ratios.join(" | "));
     }
-    println!("\nThe check reads {:.2} × as many names a second as the reading.\n", rate(swifts + 2) / rate(swifts));
+    println!("\nThe check reads {:.2} × as many names a second as the reading.\n", rate(others + 2) / rate(others));
 }
 
-/// Holds our calls at N = 256 to the Rust on every name. Returns how many bytes the texts have together.
+/// Holds our calls at N = 256 to the Rust on every name. Returns how many bytes the texts have
+/// together.
 fn judged(list: &[&str]) -> usize {
     let mut ours = Ours::new(CEILING, ROOM);
     let mut bytes = 0;
@@ -287,15 +291,17 @@ fn describe(about: &str, list: &[&str], texts: usize) {
     );
 }
 
-/// This program's path, as it was given: where Swift's loader runs it, the system says that it is the loader.
+/// This program's path, as it was given: where Swift's loader runs it, the system says that it is
+/// the loader.
 static ME: OnceLock<String> = OnceLock::new();
 
 fn me() -> &'static str {
     ME.get().unwrap()
 }
 
-/// Seconds of processor time and the most memory in kilobytes of a program run on a file. A small process starts it and measures: what
-/// the system says of a process begins with what the one that started it had.
+/// Seconds of processor time and the most memory in kilobytes of a program run on a file. A small
+/// process starts it and measures: what the system says of a process begins with what the one that
+/// started it had.
 fn run(program: &str, args: &[&str], input: &str, output: &str) -> Option<(f64, i64)> {
     let said = std::process::Command::new(me()).args(["run", input, output, program]).args(args).output().unwrap().stdout;
     let said = String::from_utf8(said).unwrap();

@@ -7,7 +7,8 @@ use crate::shared::{Phase, Shared};
 pub const MOST: usize = 65_536; // the Rust's ceiling
 const MOST_TEXT: usize = 65_535;
 const GUARD: usize = 64;
-/// Texts longer than this are not asked for: our calls are then judged by 12 and by the check alone.
+/// Texts longer than this are not asked for: our calls are then judged by 12 and by the check
+/// alone.
 const MOST_OUT: usize = 64 << 20;
 /// The ceiling of the programs `names` and `shapes`, and the room that `names` has for a text.
 const NAMES_CEILING: usize = 256;
@@ -134,7 +135,8 @@ impl Judge {
         self.numbers = numbers;
     }
 
-    /// A workspace of so many numbers, all dirt, with a guard behind it. Answers where the dirt was taken from.
+    /// A workspace of so many numbers, all dirt, with a guard behind it. Answers where the dirt was
+    /// taken from.
     fn workspace(&mut self, length: usize) -> usize {
         let from = self.r.below(self.dirt.len());
         lay(&self.dirt, from, length + GUARD, &mut self.small);
@@ -160,7 +162,8 @@ impl Judge {
         numbers_a_node(call) * n + self.r.of(&[0, 0, 1, 7, 64, 1000])
     }
 
-    /// A whole reading with a workspace of dirt, and everything that holds of it whatever it answers.
+    /// A whole reading with a workspace of dirt, and everything that holds of it whatever it
+    /// answers.
     fn read(&mut self, form: Form, text: &[u8], n: usize, workspace: usize, room: usize) -> Verdict<Answer> {
         let w = self.workspace(workspace);
         let o = self.output(room);
@@ -231,7 +234,8 @@ impl Judge {
         Ok(a)
     }
 
-    /// What every whole call keeps to: 1 to 5 as document 01 orders them, places in bounds, no counts beside a refusal.
+    /// What every whole call keeps to: 1 to 5 as document 01 orders them, places in bounds, no
+    /// counts beside a refusal.
     fn judge_whole(
         &self,
         call: Call,
@@ -300,7 +304,8 @@ impl Judge {
         Ok(a)
     }
 
-    /// Reading and check stopped after k, with the same room: the same answer and the same stack. Answers it and the stack.
+    /// Reading and check stopped after k, with the same room: the same answer and the same stack.
+    /// Answers it and the stack.
     fn both_stopped(&mut self, form: Form, text: &[u8], n: usize, k: usize, room: usize) -> Verdict<Stopped> {
         let a = self.stopped(Call::Reading, form, text, n, k, room)?;
         let stack = self.stack[..a.length as usize].to_vec();
@@ -312,9 +317,9 @@ impl Judge {
         Ok((a, stack))
     }
 
-    /// Whole reading and whole check with a ceiling, held against each other, against the Rust's text
-    /// and against the check with N = 65,536: accepted where its charged total fits, else 7; a refusal
-    /// stays or becomes 7 at no later place. Returns the reading's answer and the check's.
+    /// Whole reading and whole check with a ceiling, held against each other, against the Rust's
+    /// text and against the check with N = 65,536: accepted where its charged total fits, else 7; a
+    /// refusal stays or becomes 7 at no later place. Returns the reading's answer and the check's.
     fn both_whole(&mut self, form: Form, text: &[u8], rust: &Rust, at_most: Answer, n: usize, room: usize) -> Verdict<(Answer, Answer)> {
         let w = self.enough(Call::Reading, n);
         let a = self.read(form, text, n, w, room)?;

@@ -1,5 +1,6 @@
-//! Swift 6's own demangler: the function `swift_demangle` that libswiftCore.so exports, found at run time. The program must
-//! run with Swift's libraries within its reach: by bin/in-swift of the folder that compare/swift/fetch sets up.
+//! Swift 6's own demangler: the function `swift_demangle` that libswiftCore.so exports, found at
+//! run time. The program must run with Swift's libraries within its reach: by bin/in-swift of the
+//! folder that compare/swift/fetch sets up.
 
 use std::ffi::{c_char, c_void, CStr};
 
@@ -15,7 +16,8 @@ pub struct Six {
     /// Swift's version.
     pub version: String,
     call: SwiftDemangle,
-    /// Memory for texts: more than any name of a list takes, since the function writes past a buffer that is too small.
+    /// Memory for texts: more than any name of a list takes, since the function writes past a
+    /// buffer that is too small.
     out: Vec<u8>,
 }
 
@@ -36,8 +38,8 @@ impl Six {
         }
     }
 
-    /// Calls it for one name, after which a NUL must be stored. Returns the first byte of what it writes: nothing more is looked at
-    /// while time is taken.
+    /// Calls it for one name, after which a NUL must be stored. Returns the first byte of what it
+    /// writes: nothing more is looked at while time is taken.
     pub fn call(&mut self, name: &str) -> u8 {
         let mut room = self.out.len();
         let text = unsafe { (self.call)(name.as_ptr().cast(), name.len(), self.out.as_mut_ptr().cast(), &mut room, 0) };

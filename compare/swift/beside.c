@@ -1,5 +1,6 @@
-/* A program that has both in it: our calls, linked from the archives, and Swift's own runtime library, which exports a function
- * `swift_demangle`. Reads some names by both and compares the texts; ./beside builds and runs it. */
+/* A program that has both in it: our calls, linked from the archives, and Swift's own runtime
+ * library, which exports a function `swift_demangle`. Reads some names by both and compares the
+ * texts; ./beside builds and runs it. */
 #include "cepruvels.h"
 
 #include <stdio.h>
