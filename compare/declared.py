@@ -7,9 +7,11 @@ ROOT is the repository, SWIFT the folder that compare/swift/fetch sets up, PROGR
 
 A comment `// = text` in a source is the text that the Rust prints for one compiled name of the
 declaration after it; a line `//   ` continues the text. The name is looked for among all that
-Swift's own compiler gives for that source. `// Section: title` names the table of docs/NAMES.md
-that the rows after it go into. A type or an extension over several lines ends its first line with
-a brace, and a line of its own closes it.
+Swift's own compiler gives for that source, and Swift's own text of it must have what is declared in
+it. `// ~ text` is the same for a name that the declaration brings with it and that is not its own:
+its module's, or one that its code uses. `// Section: title` names the table of docs/NAMES.md that
+the rows after it go into. A type or an extension over several lines ends its first line with a
+brace, and a line of its own closes it.
 """
 import difflib
 import os
@@ -23,12 +25,13 @@ FOLDER = "compare/declarations"
 ROWS = FOLDER + "/rows"
 PAGE = "docs/NAMES.md"
 
-SECTION, TEXT, MORE = "// Section: ", "// = ", "//   "
+SECTION, OWN, OTHER, MORE = "// Section: ", "// = ", "// ~ ", "//   "
+DECLARED = re.compile(r"\b(?:func|var|struct|class(?! func)|enum|protocol|extension|associatedtype) (\w+)|\b(init|deinit)\b")
 FUNCTION = re.compile(r"(@\w+(\(.*?\)+)? |\w+ )*(func|init|deinit)\b")
 TABLE = re.compile(r"(<!-- table: (.*?) -->\n).*?(<!-- end -->)", re.S)
 COVERAGE = re.compile(r"(<!-- coverage -->\n).*?(<!-- end -->)", re.S)
 
-Expected = namedtuple("Expected", "place section declaration text")
+Expected = namedtuple("Expected", "place section declaration declared text")
 Row = namedtuple("Row", "section declaration name text swift")
 
 
@@ -55,6 +58,12 @@ def unfinished(code):
     return code.count("(") > code.count(")") or code.count("{") > code.count("}") + 1
 
 
+def declared_in(code):
+    """What a declaration declares: an identifier, `init` or `deinit`."""
+    match = DECLARED.search(code)
+    return match and (match[1] or match[2])
+
+
 class Source:
     """What the comments of a source ask for, gathered line by line."""
 
@@ -70,10 +79,10 @@ class Source:
     def line(self, code):
         if code.startswith(SECTION):
             self.section = code[len(SECTION) :]
-        elif code.startswith(TEXT):
-            self.texts.append([self.place, code[len(TEXT) :]])
+        elif code.startswith((OWN, OTHER)):
+            self.texts.append([self.place, code.startswith(OWN), code[len(OWN) :]])
         elif self.texts and code.startswith(MORE):
-            self.texts[-1][1] += " " + code[len(MORE) :]
+            self.texts[-1][2] += " " + code[len(MORE) :]
         elif code and not code.startswith("//"):
             self.code(code)
         elif self.texts:
@@ -85,18 +94,21 @@ class Source:
         self.begun = code if unfinished(code) else ""
         if self.begun:
             return
-        self.ask(" { ".join(self.around + [headline(code)]) + " }" * len(self.around))
+        self.ask(code, " { ".join(self.around + [headline(code)]) + " }" * len(self.around))
         if code == "}":
             self.around.pop()
         elif code.endswith("{"):
             self.around.append(headline(code))
 
-    def ask(self, declaration):
+    def ask(self, code, declaration):
         """Takes the texts that were before a declaration."""
         if self.texts and self.section is None:
             raise Problem(f"{self.place}: a row in no section")
-        for place, text in self.texts:
-            self.asked.append(Expected(place, self.section, declaration, text))
+        for place, own, text in self.texts:
+            declared = declared_in(code) if own else ""
+            if declared is None:
+                raise Problem(f"{place}: nothing is declared after it")
+            self.asked.append(Expected(place, self.section, declaration, declared, text))
         self.texts = []
 
 
@@ -138,13 +150,20 @@ class Programs:
         return {operator: int(often) for operator, often in (line.split("\t") for line in lines)}
 
 
-def found(asked, texts):
+def words_of(text):
+    """The identifiers of a text, and `init` and `deinit`."""
+    return re.split(r"\W+|__allocating_|__deallocating_", text)
+
+
+def found(asked, texts, swifts):
     """The rows that have one compiled name, with it; what is wrong with the others."""
     named, problems = [], []
     for row in asked:
         names = [name for name, text in texts.items() if text == row.text]
         if len(names) == 1:
             named.append((row, names[0]))
+            if row.declared and row.declared not in words_of(swifts[names[0]]):
+                problems.append(f"{row.place}: {names[0]} is no name of {row.declared}")
             continue
         count = len(names) or "no"
         problems.append(f"{row.place}: {count} compiled names have the text {row.text}")
@@ -169,22 +188,25 @@ def twice(named):
 
 
 def confirmed(root, programs):
-    """Every comment with its name; all compiled names; the texts of those that the Rust reads."""
+    """Every comment with its name; all compiled names; the texts of those that the Rust reads, by
+    the Rust and by Swift."""
     folder = os.path.join(root, FOLDER)
-    named, problems, names, texts = [], [], set(), {}
+    named, problems, names, texts, swifts = [], [], set(), {}, {}
     for source in sorted(f for f in os.listdir(folder) if f.endswith(".swift")):
         asked = Source(f"{FOLDER}/{source}", kept(os.path.join(folder, source)).splitlines()).asked
         own = programs.compiled(source, folder)
         own_texts = programs.texts(own)
-        own_named, own_problems = found(asked, own_texts)
+        own_swifts = programs.swifts(list(own_texts))
+        own_named, own_problems = found(asked, own_texts, own_swifts)
         named += own_named
         problems += own_problems
         names.update(own)
         texts.update(own_texts)
+        swifts.update(own_swifts)
     problems += twice(named)
     if problems:
         raise Problem("\n".join(problems))
-    return named, names, texts
+    return named, names, texts, swifts
 
 
 # Rows and page
@@ -287,9 +309,8 @@ def settle(root, path, text, check):
 
 def main(root, swift, folder, check):
     programs = Programs(swift, folder)
-    named, names, texts = confirmed(root, programs)
+    named, names, texts, swifts = confirmed(root, programs)
     page = kept(os.path.join(root, PAGE))
-    swifts = programs.swifts(sorted(texts))
     rows = rows_of(named, swifts, sections(page))
     used = programs.occurring([row.name for row in rows])
     coverage = covered(rows, names, texts, used)

@@ -3,9 +3,9 @@
  *
  * `rt staticlib capi` proves the four calls of the reading and writes target/staticlib/libcapi.a
  * (x86-64 Linux), `rt staticlib capi_check` those of the shape check and libcapi_check.a. Link the
- * one that has your calls, or both, and nothing else. They export the functions below and no other
- * name, so that they can be linked beside Swift's own runtime, whose libswiftCore.so exports a
- * `swift_demangle` of another signature.
+ * one that has your calls, or both; they need memcpy and memset of the C library and nothing else.
+ * They export the functions below and no other name, so that they can be linked beside Swift's own
+ * runtime, whose libswiftCore.so exports a `swift_demangle` of another signature.
  *
  * The calls allocate nothing, keep nothing from one call to the next and write only where this page
  * says so; any number of threads may call at once, each with memory of its own. What each call

@@ -43,13 +43,13 @@ struct Choir<Voice: Hashable>: Player {
 
 func perform<Someone: Player>(_ player: Someone) {}
 
-// = lazy protocol witness table accessor for type Band.Choir<Swift.Int> and conformance
+// ~ lazy protocol witness table accessor for type Band.Choir<Swift.Int> and conformance
 //   Band.Choir<A> : Band.Player in Band
-// = lazy protocol witness table cache variable for type Band.Choir<Swift.Int> and conformance
+// ~ lazy protocol witness table cache variable for type Band.Choir<Swift.Int> and conformance
 //   Band.Choir<A> : Band.Player in Band
 func rehearse() { perform(Choir<Int>(name: "alto")) }
 
 // Section: Thunks
 
-// = dispatch thunk of Swift.Collection.count.getter : Swift.Int
+// ~ dispatch thunk of Swift.Collection.count.getter : Swift.Int
 func size<Group: Collection>(_ group: Group) -> Int { group.count }

@@ -65,6 +65,10 @@ func watch<Guest: Eater>(_ food: Guest.Food, of guest: Guest) where Guest.Food: 
 // = Farm.swap<A, B where A: Farm.Eater, B: Farm.Eater, A.Food == B.Food>(A, B, A.Food) -> ()
 func swap<A: Eater, B: Eater>(_ a: A, _ b: B, _ food: A.Food) where A.Food == B.Food {}
 
+// = Farm.share<A, B where A: Farm.Eater, B: Farm.Eater, A.Food: Swift.Hashable, B.Food == B.Food>(A,
+//   B) -> ()
+func share<A: Eater, B: Eater>(_ a: A, _ b: B) where A.Food: Hashable, A.Food == B.Food {}
+
 struct Sack<Content> {
     // = Farm.Sack.weigh<A where A == Swift.Int>() -> Swift.Int
     func weigh() -> Int where Content == Int { 0 }

@@ -53,7 +53,7 @@ func load<A: Codable, B: RawRepresentable>(_ a: A, _ b: B) {}
 // = Lab.draw<A, B where A: Swift.StringProtocol, B: Swift.RandomNumberGenerator>(A, B) -> ()
 func draw<A: StringProtocol, B: RandomNumberGenerator>(_ a: A, _ b: B) {}
 
-// = type metadata accessor for Swift.Optional
+// ~ type metadata accessor for Swift.Optional
 func kind<Sample>(of sample: Sample) -> Any.Type { Sample?.self }
 
 // Section: Type metadata
@@ -105,7 +105,7 @@ enum Outcome { case passed(Int), failed(String) }
 
 func start(_ code: Int32) -> Int32 { code }
 
-// = @objc Lab.start(Swift.Int32) -> Swift.Int32
+// ~ @objc Lab.start(Swift.Int32) -> Swift.Int32
 var hook: @convention(c) (Int32) -> Int32 = start
 
 // = dynamically replaceable key for Lab.mix() -> ()

@@ -10,8 +10,8 @@ func unload(_ storage: _SwiftArrayBodyStorage) {}
 // = Port.admit(__C._SwiftStdlibVersion) -> ()
 func admit(_ version: _SwiftStdlibVersion) {}
 
-// = lazy cache variable for type metadata for __C._SwiftStdlibVersion
+// ~ lazy cache variable for type metadata for __C._SwiftStdlibVersion
 struct Release { var version: _SwiftStdlibVersion }
 
-// = @nonobjc __C._swift_stdlib_free(Swift.UnsafeMutableRawPointer?) -> ()
+// ~ @nonobjc __C._swift_stdlib_free(Swift.UnsafeMutableRawPointer?) -> ()
 var free: (UnsafeMutableRawPointer?) -> Void = _swift_stdlib_free

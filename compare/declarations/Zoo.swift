@@ -1,12 +1,12 @@
 // A zoo: modules and types, nested types, functions and their labels.
 //
-// `// =` has the text of one compiled name of the declaration after it, as the Rust prints it;
-// compare/declared finds the name. `// Section:` names the table of docs/NAMES.md that the rows
-// after it go into.
+// `// =` has the text of one compiled name of the declaration after it, as the Rust prints it, and
+// `// ~` that of one that the declaration brings with it; compare/declared finds the name.
+// `// Section:` names the table of docs/NAMES.md that the rows after it go into.
 
 // Section: Modules and types
 
-// = module descriptor Zoo
+// ~ module descriptor Zoo
 // = nominal type descriptor for Zoo.Ticket
 struct Ticket { var price: Int }
 

@@ -13,6 +13,7 @@ use judge::{Judge, Rust, Verdict};
 use ours::Form;
 use random::Random;
 use shared::Shared;
+use std::collections::HashSet;
 use std::sync::atomic::AtomicU64;
 use workers::{add, by_number, get, number, Comparison, Options, Outcome, Text};
 
@@ -149,7 +150,8 @@ fn asked() -> Option<Asked> {
         "--names" => Some(names = Some(value.to_string())),
         _ => None,
     })?;
-    Some(Asked { options, changes, names })
+    let one_kind = options.one.is_none() || names.is_none();
+    one_kind.then_some(Asked { options, changes, names })
 }
 
 fn fail(say: &str) -> ! {
@@ -196,6 +198,8 @@ fn summary(shared: &Shared, real: &Real, outcome: &Outcome) {
         get(&c.calls),
         outcome.seconds()
     );
+    let different: HashSet<&[u8]> = real.types.iter().map(|&name| real.unchanged(Form::Type, name)).collect();
+    println!("the types are {} different ones", different.len());
     for (form, count, what) in [(Form::Symbol, names, "the names"), (Form::Type, types, "their types")] {
         let counts = own(shared, form);
         println!("{what} unchanged: the Rust reads {} of {count}", get(&counts[0]));

@@ -154,6 +154,8 @@ fn ours_of(_: &Case) -> String {
 fn check(cases: &str, answers: &str) {
     let (cases, answers) = (std::fs::read_to_string(cases).unwrap(), std::fs::read_to_string(answers).unwrap());
     assert_eq!(cases.lines().count(), answers.lines().count(), "as many answers as cases");
+    let made: Vec<String> = self::cases().iter().map(Case::line).collect();
+    assert!(cases.lines().eq(made.iter().map(String::as_str)), "the cases are those that this program makes");
     let (mut asked, mut numbers, mut calls) = (0, [0; 13], [0; 8]);
     for (line, answer) in cases.lines().zip(answers.lines()) {
         let c = Case::of(line);
