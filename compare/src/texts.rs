@@ -16,16 +16,6 @@ pub struct Text {
     pub form: Form,
     /// Of a name that the grammar made and nothing changed: its tree.
     pub tree: Option<Tree>,
-    pub source: Source,
-}
-
-#[derive(Clone, Copy, PartialEq, Eq, Debug)]
-pub enum Source {
-    Short,
-    Boundary,
-    Name,
-    Changed,
-    Operators,
 }
 
 pub struct Texts {
@@ -49,11 +39,11 @@ impl Texts {
     pub fn at(&self, i: usize) -> Text {
         if i < 2 * self.shorts {
             let form = if i % 2 == 0 { Form::Type } else { Form::Symbol };
-            return plain(form, with_prefix(form, short(i / 2).into_bytes()), Source::Short);
+            return plain(form, with_prefix(form, short(i / 2).into_bytes()));
         }
         let i = i - 2 * self.shorts;
         if let Some((form, bytes)) = self.boundaries.get(i) {
-            return plain(*form, bytes.clone(), Source::Boundary);
+            return plain(*form, bytes.clone());
         }
         self.drawn(self.seed.wrapping_mul(0x2545_F491_4F6C_DD1D).wrapping_add(i as u64))
     }
@@ -64,18 +54,18 @@ impl Texts {
         if kind == 2 {
             let form = if g.r.chance(50) { Form::Type } else { Form::Symbol };
             let bytes = self.operators(&mut g.r);
-            return plain(form, with_prefix(form, bytes), Source::Operators);
+            return plain(form, with_prefix(form, bytes));
         }
         let (form, tree, bytes) = named(&mut g);
         if kind == 0 {
-            return Text { bytes, form, tree, source: Source::Name };
+            return Text { bytes, form, tree };
         }
         let mut bytes = bytes;
         for _ in 0..1 + g.r.weighted(&[5, 3, 2, 1]) {
             bytes = self.changed(&mut g, bytes);
         }
         bytes.truncate(70_000);
-        plain(form, bytes, Source::Changed)
+        plain(form, bytes)
     }
 
     /// Operators in any order, those that take nothing more often.
@@ -142,8 +132,8 @@ impl Texts {
     }
 }
 
-fn plain(form: Form, bytes: Vec<u8>, source: Source) -> Text {
-    Text { bytes, form, tree: None, source }
+fn plain(form: Form, bytes: Vec<u8>) -> Text {
+    Text { bytes, form, tree: None }
 }
 
 fn with_prefix(form: Form, bytes: Vec<u8>) -> Vec<u8> {
