@@ -1,16 +1,22 @@
 ghost use mathlib.Core.Path.{_≡_};
 ghost use Prim.Native.Nat.{_≤_, _<_};
 ghost use lib.ListN.{length};
-// Runs the eight calls on the cases of standard input, and writes what each answers. A case is a line: the call's number (0 demangle, 1
-// demangle_type, 2 shape, 3 shape_type, 4 to 7 the same stopped), the ceiling, k or `-`, how many numbers of workspace and how much room to lend,
-// and the text in hexadecimal digits, with tabs between them. An answer is a line: number, place, steps, total, wraps and length with spaces
-// between them, a tab, and what was written: bytes in hexadecimal digits, or numbers with spaces between them. Workspace and output slices
-// hold whatever the cases before left in them. compare/vectors says how cases and answers were made.
+// Answers the lines of standard input, each on a line of standard output.
+//
+// A line that starts with a letter is for a reader of bytes (readers.rt). Any other line is a case:
+// the call's number (0 demangle, 1 demangle_type, 2 shape, 3 shape_type, 4 to 7 the same stopped),
+// the ceiling, k or `-`, how many numbers of workspace and how much room to lend, and the text in
+// hexadecimal digits, with tabs between them. The answer is number, place, steps, total, wraps and
+// length with spaces between them, a tab, and what was written: bytes in hexadecimal digits, or
+// numbers with spaces between them. Workspace and output slices hold whatever the cases before left
+// in them. compare/vectors says how lines and answers were made.
+mod readers;
+
 use definition::Answer;
 use text::Cursor;
 use text::Number;
 
-// A number of a line, and the place behind the tab that follows it.
+// A number of a case, and the place after the tab that follows it.
 struct Column {
     value: usize,
     next: usize,
@@ -225,7 +231,8 @@ fn store(text: &mut [u8], n: usize, b: u8)
     text[n] = b;
 }
 
-// The bytes that the hexadecimal digits from `at` on stand for, as far as there is room; returns how many.
+// The bytes that the hexadecimal digits from a place on stand for, as far as there is room; returns
+// how many.
 fn decode(line: &[u8], from: usize, text: &mut [u8]) -> usize
     ensures { λ r. ⌜ r ≤ length (now (text .exit)) ⌝ }
 {
@@ -247,7 +254,7 @@ fn decode(line: &[u8], from: usize, text: &mut [u8]) -> usize
     n
 }
 
-fn run_line(line: &[u8], ws: &mut [u32], bytes: &mut [u8], numbers: &mut [u32], text: &mut [u8]) {
+fn run_case(line: &[u8], ws: &mut [u32], bytes: &mut [u8], numbers: &mut [u32], text: &mut [u8]) {
     let call = field(line, 0);
     let ceiling = field(line, call.next);
     let k = field(line, ceiling.next);
@@ -265,6 +272,25 @@ fn run_line(line: &[u8], ws: &mut [u32], bytes: &mut [u8], numbers: &mut [u32], 
         bytes,
         numbers,
     );
+}
+
+fn starts_with_letter(line: &[u8]) -> bool {
+    if line.len() == 0 {
+        return false;
+    }
+    b'9' < line[0]
+}
+
+fn answer(line: &[u8], ws: &mut [u32], bytes: &mut [u8], numbers: &mut [u32], text: &mut [u8]) {
+    if starts_with_letter(line) {
+        readers::answer(line);
+        return;
+    }
+    run_case(line, ws, bytes, numbers, text);
+}
+
+fn run_line(line: &[u8], ws: &mut [u32], bytes: &mut [u8], numbers: &mut [u32], text: &mut [u8]) {
+    answer(line, ws, bytes, numbers, text);
     io::write_all(1, b"\n");
 }
 
@@ -278,8 +304,8 @@ fn run_lines(all: &[u8], ws: &mut [u32], bytes: &mut [u8], numbers: &mut [u32], 
 }
 
 // All of standard input.
-fn input() -> [u8; 1048576] {
-    [0; 1048576]
+fn input() -> [u8; 1572864] {
+    [0; 1572864]
 }
 
 // 64 × 16,384 numbers.

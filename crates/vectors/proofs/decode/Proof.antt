@@ -15,83 +15,83 @@ Inv-loop line from text₀ at₀ n₀ text at n = (n ≤ length text) × (length
 abbrev μ-loop : tie.MeasureT-loop
 μ-loop line from text₀ at₀ n₀ text at n = length text - n
 
--- src/main.rt:234:5
+-- src/main.rt:241:5
 loop-holds : tie.Need-loop-holds Inv-loop μ-loop
 loop-holds c = search needs
 
--- src/main.rt:236:13
+-- src/main.rt:243:13
 same-length : tie.Need-same-length Inv-loop μ-loop
 same-length c = search needs
 
--- src/main.rt:236:13
+-- src/main.rt:243:13
 returns : tie.Need-returns Inv-loop μ-loop
 returns c = search needs
 
--- src/main.rt:238:12
+-- src/main.rt:245:12
 sub-if2 : tie.Need-sub-if2 Inv-loop μ-loop
 sub-if2 c = search needs
 
--- src/main.rt:239:13
+-- src/main.rt:246:13
 same-length-2 : tie.Need-same-length-2 Inv-loop μ-loop
 same-length-2 c = search needs
 
--- src/main.rt:239:13
+-- src/main.rt:246:13
 returns-2 : tie.Need-returns-2 Inv-loop μ-loop
 returns-2 c = search needs
 
--- src/main.rt:241:27
+-- src/main.rt:248:27
 shared-slice-read-nibble : tie.Need-shared-slice-read-nibble Inv-loop μ-loop
 shared-slice-read-nibble c = search needs
 
--- src/main.rt:241:13
+-- src/main.rt:248:13
 nibble-requires : tie.Need-nibble-requires Inv-loop μ-loop
 nibble-requires c κs = search needs
 
--- src/main.rt:242:31
+-- src/main.rt:249:31
 add-nibble : tie.Need-add-nibble Inv-loop μ-loop
 add-nibble c = search needs
 
--- src/main.rt:242:26
+-- src/main.rt:249:26
 shared-slice-read-nibble-2 : tie.Need-shared-slice-read-nibble-2 Inv-loop μ-loop
 shared-slice-read-nibble-2 c = search needs
 
--- src/main.rt:242:13
+-- src/main.rt:249:13
 nibble-requires-2 : tie.Need-nibble-requires-2 Inv-loop μ-loop
 nibble-requires-2 c κs = search needs
 
--- src/main.rt:243:24
+-- src/main.rt:250:24
 mul-store : tie.Need-mul-store Inv-loop μ-loop
 mul-store c = search needs
 
--- src/main.rt:243:24
+-- src/main.rt:250:24
 add-store : tie.Need-add-store Inv-loop μ-loop
 add-store c = search needs
 
--- src/main.rt:243:9
+-- src/main.rt:250:9
 store-requires : tie.Need-store-requires Inv-loop μ-loop
 store-requires c κs = search needs
 
--- src/main.rt:244:9
+-- src/main.rt:251:9
 add-n : tie.Need-add-n Inv-loop μ-loop
 add-n c = search needs
 
--- src/main.rt:245:9
+-- src/main.rt:252:9
 add-at : tie.Need-add-at Inv-loop μ-loop
 add-at c = search needs
 
--- src/main.rt:234:5
+-- src/main.rt:241:5
 loop-less : tie.Need-loop-less Inv-loop μ-loop
 loop-less c = search needs
 
--- src/main.rt:234:5
+-- src/main.rt:241:5
 loop-again : tie.Need-loop-again Inv-loop μ-loop
 loop-again c = search needs
 
--- src/main.rt:229:1
+-- src/main.rt:236:1
 same-length-3 : tie.Need-same-length-3 Inv-loop μ-loop
 same-length-3 c = search needs
 
--- src/main.rt:229:1
+-- src/main.rt:236:1
 returns-3 : tie.Need-returns-3 Inv-loop μ-loop
 returns-3 c = search needs
 

@@ -14,31 +14,31 @@ Inv-loop out n i₀ i = i ≤ n
 abbrev μ-loop : tie.MeasureT-loop
 μ-loop out n i₀ i = n - i
 
--- src/main.rt:79:5
+-- src/main.rt:85:5
 loop-holds : tie.Need-loop-holds Inv-loop μ-loop
 loop-holds c = search needs
 
--- src/main.rt:81:21
+-- src/main.rt:87:21
 shared-slice-read-put-hex : tie.Need-shared-slice-read-put-hex Inv-loop μ-loop
 shared-slice-read-put-hex c = search needs
 
--- src/main.rt:81:13
+-- src/main.rt:87:13
 put-hex-requires : tie.Need-put-hex-requires Inv-loop μ-loop
 put-hex-requires c κs = search needs
 
--- src/main.rt:83:9
+-- src/main.rt:89:9
 add-i : tie.Need-add-i Inv-loop μ-loop
 add-i c = search needs
 
--- src/main.rt:79:5
+-- src/main.rt:85:5
 loop-less : tie.Need-loop-less Inv-loop μ-loop
 loop-less c = search needs
 
--- src/main.rt:79:5
+-- src/main.rt:85:5
 loop-again : tie.Need-loop-again Inv-loop μ-loop
 loop-again c = search needs
 
--- src/main.rt:77:1
+-- src/main.rt:83:1
 returns : tie.Need-returns Inv-loop μ-loop
 returns c = search needs
 

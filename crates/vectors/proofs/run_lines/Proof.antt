@@ -15,59 +15,59 @@ Inv-loop all ws₀ bytes₀ numbers₀ text₀ at₀ ws bytes numbers text at = 
 abbrev μ-loop : tie.MeasureT-loop
 μ-loop all ws₀ bytes₀ numbers₀ text₀ at₀ ws bytes numbers text at = (length all + 1) - at
 
--- src/main.rt:273:5
+-- src/main.rt:299:5
 loop-holds : tie.Need-loop-holds Inv-loop μ-loop
 loop-holds c = search needs
 
--- src/main.rt:274:13
+-- src/main.rt:300:13
 line-end-requires : tie.Need-line-end-requires Inv-loop μ-loop
 line-end-requires c κs = search needs
 
--- src/main.rt:275:18
+-- src/main.rt:301:18
 sub-run-line : tie.Need-sub-run-line Inv-loop μ-loop
 sub-run-line c = search needs
 
--- src/main.rt:275:18
+-- src/main.rt:301:18
 part-run-line-start : tie.Need-part-run-line-start Inv-loop μ-loop
 part-run-line-start c = search needs
 
--- src/main.rt:275:18
+-- src/main.rt:301:18
 part-run-line-end : tie.Need-part-run-line-end Inv-loop μ-loop
 part-run-line-end c = search needs
 
--- src/main.rt:275:9
+-- src/main.rt:301:9
 run-line-requires : tie.Need-run-line-requires Inv-loop μ-loop
 run-line-requires c κs = search needs
 
--- src/main.rt:276:14
+-- src/main.rt:302:14
 add-at : tie.Need-add-at Inv-loop μ-loop
 add-at c = search needs
 
--- src/main.rt:273:5
+-- src/main.rt:299:5
 loop-less : tie.Need-loop-less Inv-loop μ-loop
 loop-less c = search needs
 
--- src/main.rt:273:5
+-- src/main.rt:299:5
 loop-again : tie.Need-loop-again Inv-loop μ-loop
 loop-again c = search needs
 
--- src/main.rt:271:1
+-- src/main.rt:297:1
 same-length : tie.Need-same-length Inv-loop μ-loop
 same-length c = search needs
 
--- src/main.rt:271:1
+-- src/main.rt:297:1
 same-length-2 : tie.Need-same-length-2 Inv-loop μ-loop
 same-length-2 c = search needs
 
--- src/main.rt:271:1
+-- src/main.rt:297:1
 same-length-3 : tie.Need-same-length-3 Inv-loop μ-loop
 same-length-3 c = search needs
 
--- src/main.rt:271:1
+-- src/main.rt:297:1
 same-length-4 : tie.Need-same-length-4 Inv-loop μ-loop
 same-length-4 c = search needs
 
--- src/main.rt:271:1
+-- src/main.rt:297:1
 returns : tie.Need-returns Inv-loop μ-loop
 returns c = search needs
 

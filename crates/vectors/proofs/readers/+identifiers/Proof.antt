@@ -7,14 +7,14 @@ use denote.Ref.{now}
 use Prim.Native.Nat.{ℕ, _<_}
 use borrow.Fn.Kinds.{In}
 use borrow.Fn.PlainCycle.{Measures, is, falls, and}
-use Rattle.leaves.proofs.identifiers.Reads as identifiers
-use Rattle.leaves.proofs.identifiers.Kinds as identifiers-kinds
-use Rattle.leaves.proofs.+identifiers.Lts-identifiers as identifiers-lts
-use Rattle.leaves.proofs.refused.Reads as refused-reads
-use Rattle.leaves.proofs.show_place.Reads as show-place-reads
+use Rattle.vectors.proofs.readers.identifiers.Reads as identifiers
+use Rattle.vectors.proofs.readers.identifiers.Kinds as identifiers-kinds
+use Rattle.vectors.proofs.readers.+identifiers.Lts-identifiers as identifiers-lts
+use Rattle.vectors.proofs.readers.refused.Reads as refused-reads
+use Rattle.vectors.proofs.readers.show_place.Reads as show-place-reads
 use Rattle.identifiers.proofs.identifier.Reads as identifier-reads
-use Rattle.leaves.proofs.+identifiers.{statement}
-use Rattle.leaves.proofs.+identifiers.Tie.{close}
+use Rattle.vectors.proofs.readers.+identifiers.{statement}
+use Rattle.vectors.proofs.readers.+identifiers.Tie.{close}
 
 abbrev μ-identifiers : Measures 1 identifiers-kinds.ps ℕ
 μ-identifiers κs a = length (now (a .0)) - a .1 .0
@@ -30,39 +30,39 @@ identifiers-below t =
 abbrev identifiers-claims : ℕ → identifiers-lts.Claims
 identifiers-claims t = (identifier-reads.Asked, identifier-reads.Learnt, show-place-reads.Asked, show-place-reads.Learnt, identifiers-below t, identifiers.Post, refused-reads.Asked, refused-reads.Learnt)
 
--- src/main.rt:104:9
+-- src/readers.rt:85:9
 identifiers-returns : (t : ℕ) → identifiers-lts.Need-returns (identifiers-claims t) (identifiers-at t) identifiers.Post
 identifiers-returns t c = search needs
 
--- src/main.rt:106:9
+-- src/readers.rt:87:9
 identifiers-identifier-requires : (t : ℕ) → identifiers-lts.Need-identifier-requires (identifiers-claims t) (identifiers-at t) identifiers.Post
 identifiers-identifier-requires t c κs = search needs
 
--- src/main.rt:110:24
+-- src/readers.rt:91:24
 identifiers-enum-known-read : (t : ℕ) → identifiers-lts.Need-enum-known-read (identifiers-claims t) (identifiers-at t) identifiers.Post
 identifiers-enum-known-read t c = search needs
 
--- src/main.rt:112:13
+-- src/readers.rt:93:13
 identifiers-show-place-requires : (t : ℕ) → identifiers-lts.Need-show-place-requires (identifiers-claims t) (identifiers-at t) identifiers.Post
 identifiers-show-place-requires t c κs = search needs
 
--- src/main.rt:113:13
+-- src/readers.rt:94:13
 identifiers-identifiers-requires : (t : ℕ) → identifiers-lts.Need-identifiers-requires (identifiers-claims t) (identifiers-at t) identifiers.Post
 identifiers-identifiers-requires t c κs = let r = identifier-read (now (c .before .before .before .before .before .before .before .before .args .text)) (c .before .before .before .before .before .before .before .before .args .at) (c .before .before .read .given .1) (c .before .before .before .before .before .identifier .ensures) in (omega (arith, r .onward, r .inside), (r .inside, search needs, c .before .before .before .before .before .identifier .ensures .fitting, search needs))
 
--- src/main.rt:115:27
+-- src/readers.rt:96:27
 identifiers-enum-known-read-2 : (t : ℕ) → identifiers-lts.Need-enum-known-read-2 (identifiers-claims t) (identifiers-at t) identifiers.Post
 identifiers-enum-known-read-2 t c = search needs
 
--- src/main.rt:115:33
+-- src/readers.rt:96:33
 identifiers-refused-requires : (t : ℕ) → identifiers-lts.Need-refused-requires (identifiers-claims t) (identifiers-at t) identifiers.Post
 identifiers-refused-requires t c κs = search needs
 
--- src/main.rt:100:1
+-- src/readers.rt:81:1
 identifiers-returns-2 : (t : ℕ) → identifiers-lts.Need-returns-2 (identifiers-claims t) (identifiers-at t) identifiers.Post
 identifiers-returns-2 t c = search needs
 
--- src/main.rt:100:1
+-- src/readers.rt:81:1
 identifiers-returns-3 : (t : ℕ) → identifiers-lts.Need-returns-3 (identifiers-claims t) (identifiers-at t) identifiers.Post
 identifiers-returns-3 t c = search needs
 

@@ -4,8 +4,11 @@ ghost use Prim.Native.Nat.{_≤_};
 ghost use lib.ListN.{length};
 ghost use Rattle.definition.specs.Text as Text;
 ghost use Rattle.words.specs.Table.{Fitting};
-// Runs the readers of bytes on the lines of standard input. A line is a letter, which says the reader, and the text that it is
-// given; what it answers is a line of standard output: the values and the next place, or `!` and the number of the refusal.
+// Runs a reader of bytes on a line: a letter, which says the reader, and the text that it is given.
+// The answer is the values and the next place, or `!` and the number of the refusal.
+// compare/leaves.py says how lines and answers were made.
+use super::put;
+use super::space;
 use definition::Refusal;
 use identifiers::CountRead;
 use identifiers::NameRead;
@@ -15,14 +18,6 @@ use text::Number;
 use text::ParamRead;
 use utf8::IllFormed;
 use words::Words;
-
-fn put(n: usize) {
-    io::print_decimal(1, n as u64);
-}
-
-fn space() {
-    io::write_all(1, b" ");
-}
 
 fn refused(f: Refusal) {
     io::write_all(1, b"!");
@@ -82,7 +77,7 @@ fn show_place(at: usize, count: usize) {
     space();
 }
 
-// Identifiers one after another: the place behind each, and how many words are then known.
+// Identifiers one after another: the place after each, and how many words are then known.
 fn identifiers(text: &[u8], at: usize, w: Words)
     requires { ⌜ (at ≤ length (now text)) × (length (now text) ≤ 65535) × Fitting (now text) w × (Text.well-formed (now text) ≡ true) ⌝ }
 {
@@ -140,7 +135,7 @@ fn show_name(out: &mut [u8], text: &[u8], at: usize, w: Words)
     io::write_all(1, b"]");
 }
 
-// Names as they stand behind each identifier, spelled with the words then known.
+// The name of each identifier, spelled with the words that are known after it.
 fn spelled(text: &[u8], at: usize, w: Words)
     requires { ⌜ (at ≤ length (now text)) × (length (now text) ≤ 65535) × Fitting (now text) w × (Text.well-formed (now text) ≡ true) ⌝ }
 {
@@ -192,24 +187,8 @@ fn run(c: u8, text: &[u8]) {
     }
 }
 
-fn run_line(line: &[u8]) {
+pub fn answer(line: &[u8]) {
     if 0 < line.len() {
         run(line[0], &line[1..]);
     }
-    io::write_all(1, b"\n");
-}
-
-fn run_lines(all: &[u8]) {
-    let mut at = 0;
-    while at < all.len() {
-        let end = line_ends::line_end(all, at);
-        run_line(&all[at..end]);
-        at = end + 1;
-    }
-}
-
-fn main() {
-    let mut buffer = io::large_buffer();
-    let n = io::read_full(0, &mut buffer);
-    run_lines(&buffer[..n]);
 }

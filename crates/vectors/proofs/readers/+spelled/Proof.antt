@@ -7,15 +7,15 @@ use denote.Ref.{now}
 use Prim.Native.Nat.{ℕ, _<_}
 use borrow.Fn.Kinds.{In}
 use borrow.Fn.PlainCycle.{Measures, is, falls, and}
-use Rattle.leaves.proofs.spelled.Reads as spelled
-use Rattle.leaves.proofs.spelled.Kinds as spelled-kinds
-use Rattle.leaves.proofs.+spelled.Lts-spelled as spelled-lts
+use Rattle.vectors.proofs.readers.spelled.Reads as spelled
+use Rattle.vectors.proofs.readers.spelled.Kinds as spelled-kinds
+use Rattle.vectors.proofs.readers.+spelled.Lts-spelled as spelled-lts
 use Rattle.io.proofs.buffer.Reads as buffer-reads
-use Rattle.leaves.proofs.refused.Reads as refused-reads
-use Rattle.leaves.proofs.show_name.Reads as show-name-reads
+use Rattle.vectors.proofs.readers.refused.Reads as refused-reads
+use Rattle.vectors.proofs.readers.show_name.Reads as show-name-reads
 use Rattle.identifiers.proofs.identifier.Reads as identifier-reads
-use Rattle.leaves.proofs.+spelled.{statement}
-use Rattle.leaves.proofs.+spelled.Tie.{close}
+use Rattle.vectors.proofs.readers.+spelled.{statement}
+use Rattle.vectors.proofs.readers.+spelled.Tie.{close}
 
 abbrev μ-spelled : Measures 1 spelled-kinds.ps ℕ
 μ-spelled κs a = length (now (a .0)) - a .1 .0
@@ -29,47 +29,47 @@ spelled-below t = and 1 spelled-kinds.ps (falls 1 spelled-kinds.ps _<_ μ-spelle
 abbrev spelled-claims : ℕ → spelled-lts.Claims
 spelled-claims t = (identifier-reads.Asked, identifier-reads.Learnt, buffer-reads.Asked, buffer-reads.Learnt, show-name-reads.Asked, show-name-reads.Learnt, spelled-below t, spelled.Post, refused-reads.Asked, refused-reads.Learnt)
 
--- src/main.rt:155:9
+-- src/readers.rt:143:9
 spelled-returns : (t : ℕ) → spelled-lts.Need-returns (spelled-claims t) (spelled-at t) spelled.Post
 spelled-returns t c = search needs
 
--- src/main.rt:157:9
+-- src/readers.rt:145:9
 spelled-identifier-requires : (t : ℕ) → spelled-lts.Need-identifier-requires (spelled-claims t) (spelled-at t) spelled.Post
 spelled-identifier-requires t c κs = search needs
 
--- src/main.rt:161:24
+-- src/readers.rt:149:24
 spelled-enum-known-read : (t : ℕ) → spelled-lts.Need-enum-known-read (spelled-claims t) (spelled-at t) spelled.Post
 spelled-enum-known-read t c = search needs
 
--- src/main.rt:162:27
+-- src/readers.rt:150:27
 spelled-buffer-requires : (t : ℕ) → spelled-lts.Need-buffer-requires (spelled-claims t) (spelled-at t) spelled.Post
 spelled-buffer-requires t c κs = search needs
 
--- src/main.rt:163:23
+-- src/readers.rt:151:23
 spelled-slice-aggregate-show-name : (t : ℕ) → spelled-lts.Need-slice-aggregate-show-name (spelled-claims t) (spelled-at t) spelled.Post
 spelled-slice-aggregate-show-name t c = search needs
 
--- src/main.rt:163:13
+-- src/readers.rt:151:13
 spelled-show-name-requires : (t : ℕ) → spelled-lts.Need-show-name-requires (spelled-claims t) (spelled-at t) spelled.Post
 spelled-show-name-requires t c κs = search needs
 
--- src/main.rt:164:13
+-- src/readers.rt:152:13
 spelled-spelled-requires : (t : ℕ) → spelled-lts.Need-spelled-requires (spelled-claims t) (spelled-at t) spelled.Post
 spelled-spelled-requires t c κs = let r = identifier-read (now (c .before .before .before .before .before .before .before .before .before .before .before .args .text)) (c .before .before .before .before .before .before .before .before .before .before .before .args .at) (c .before .before .before .before .before .read .given .1) (c .before .before .before .before .before .before .before .before .identifier .ensures) in (omega (arith, r .onward, r .inside), (r .inside, search needs, c .before .before .before .before .before .before .before .before .identifier .ensures .fitting, search needs))
 
--- src/main.rt:166:27
+-- src/readers.rt:154:27
 spelled-enum-known-read-2 : (t : ℕ) → spelled-lts.Need-enum-known-read-2 (spelled-claims t) (spelled-at t) spelled.Post
 spelled-enum-known-read-2 t c = search needs
 
--- src/main.rt:166:33
+-- src/readers.rt:154:33
 spelled-refused-requires : (t : ℕ) → spelled-lts.Need-refused-requires (spelled-claims t) (spelled-at t) spelled.Post
 spelled-refused-requires t c κs = search needs
 
--- src/main.rt:151:1
+-- src/readers.rt:139:1
 spelled-returns-2 : (t : ℕ) → spelled-lts.Need-returns-2 (spelled-claims t) (spelled-at t) spelled.Post
 spelled-returns-2 t c = search needs
 
--- src/main.rt:151:1
+-- src/readers.rt:139:1
 spelled-returns-3 : (t : ℕ) → spelled-lts.Need-returns-3 (spelled-claims t) (spelled-at t) spelled.Post
 spelled-returns-3 t c = search needs
 
