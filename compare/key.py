@@ -1,12 +1,24 @@
 #!/usr/bin/env python3
-"""Writes stdin and stdout of crates/key: document 01's key, and two names that strain other readers. Run from the repository's root.
+"""Document 01's key, and two names that strain other readers, as cases of the program `vectors`.
 
-Texts, counts and refusals are document 01's. Where the key leaves the counts out, they are counted here by hand from its budgets: an
-operator is a step and charges 1, and a copy charges its size. The reading runs at a ceiling of 8,192 and the check at 65,536.
+  key.py FOLDER    appends the cases to FOLDER/stdin and their answers to FOLDER/stdout
+
+compare/vectors runs it; compare/src/vectors.rs says what a case and an answer are. Each row is two
+cases: the reading at a ceiling of 8,192, and the check at 65,536.
+
+Texts, counts and refusals are document 01's. Where the key leaves the counts out, they are counted
+here by hand from its budgets: an operator is a step and charges 1, and a copy charges its size.
 """
+import os
+import sys
 
 MANY_Z = 4090
 LEVELS = 250
+
+READING = 8192
+CHECK = 65536
+WORKSPACE = 524288  # 64 × 8,192 numbers, and 8 × 65,536
+ROOM = 65536
 
 
 def nested():
@@ -20,7 +32,9 @@ def nested():
 # as the Rust has it at 1 to 4 levels; at 250 it does not end
 NESTED = "Swift.Array : " * LEVELS + "A" + ".Array<A>" * LEVELS
 
-# (kind, text, reading, check): a reading is (steps, total, wraps, text) or (number, place); the check the same without text
+# (kind, text, reading, check): the kind is `s`, a symbol, or `t`, a type; a reading is (steps,
+# total, wraps, text) or (number, place); the check the same without text, None where it is the
+# reading's
 FOO = "main.foo() -> ()"
 ROWS = [
     ("s", "$s4main3fooyyF", (5, 5, 1, FOO), None),
@@ -44,27 +58,36 @@ ROWS = [
     ("t", "4mainA65535A", (7, 5), (7, 5)),
     ("t", "y" * 4096, (11, 4096), None),
     ("t", "y" * 4097, (6, 4096), None),
+    ("t", "Si" + "m" * 256, (257, 259, 256, "Swift.Int" + ".Type" * 256), None),
+    ("s", "$s" + nested(), (8 * LEVELS + 1, 10 * LEVELS, LEVELS, NESTED), None),
+    ("s", "$s1a1axvp" + "Z" * MANY_Z, (4 + MANY_Z, 4 + MANY_Z, 0, "static " * MANY_Z + "a.a : A"), None),
 ]
 
 
-def answered(a):
+def case(call, ceiling, room, text):
+    return "%d\t%d\t-\t%d\t%d\t%s\n" % (call, ceiling, WORKSPACE, room, text.encode().hex())
+
+
+def answer(a, written):
     if len(a) == 2:
-        return "!\t%d\t%d" % a
-    return "=" + "".join("\t%d" % n for n in a[:3])
+        return "%d %d 0 0 0 0\t\n" % a
+    return "0 0 %d %d %d %d\t%s\n" % (*a[:3], len(written), written.hex())
+
+
+def parts():
+    """Each case and its answer."""
+    for kind, text, reading, check in ROWS:
+        symbol_or_type = "st".index(kind)
+        written = reading[3].encode() if len(reading) == 4 else b""
+        yield case(symbol_or_type, READING, ROOM, text), answer(reading, written)
+        yield case(2 + symbol_or_type, CHECK, 0, text), answer(check or reading, b"")
 
 
 def main():
-    rows = ROWS + [
-        ("t", "Si" + "m" * 256, (257, 259, 256, "Swift.Int" + ".Type" * 256), None),
-        ("s", "$s" + nested(), (8 * LEVELS + 1, 10 * LEVELS, LEVELS, NESTED), None),
-        ("s", "$s1a1axvp" + "Z" * MANY_Z, (4 + MANY_Z, 4 + MANY_Z, 0, "static " * MANY_Z + "a.a : A"), None),
-    ]
-    with open("crates/key/stdin", "w") as f:
-        f.write("".join(f"{kind} {text}\n" for kind, text, _, _ in rows))
-    with open("crates/key/stdout", "w") as f:
-        for _, _, reading, check in rows:
-            f.write(answered(reading) + ("\t" + reading[3] if len(reading) == 4 else "") + "\n")
-            f.write(answered(reading if check is None else check) + "\n")
+    cases, answers = zip(*parts())
+    for name, lines in (("stdin", cases), ("stdout", answers)):
+        with open(os.path.join(sys.argv[1], name), "a") as f:
+            f.write("".join(lines))
 
 
 main()

@@ -1,9 +1,15 @@
 #!/usr/bin/env python3
-"""Writes crates/leaves/stdin and crates/leaves/stdout: what the readers of bytes must answer, computed here independently of the port.
+"""The lines of the test program `vectors` for the readers of bytes, and what these must answer.
 
-Run from the repository's root. UTF-8 is judged by Python's own decoder; numbers, indices, words and identifiers by the functions below,
-written from document 01.
+  leaves.py FOLDER    appends the lines to FOLDER/stdin and the answers to FOLDER/stdout
+
+compare/vectors runs it. A line is a letter, which says the reader, and a text. The answers are
+computed here, independently of the port: UTF-8 is judged by Python's own decoder; numbers, indices,
+words and identifiers by the functions below, written from document 01.
 """
+import os
+import sys
+
 LIMIT = 1 << 64
 BUFFER = 4096  # what the program spells a name into; a longer name is measured only
 
@@ -131,7 +137,8 @@ def identifier(t, at, words):
 
 
 def identifiers(t, show):
-    """Identifiers one after another: what `show` makes of the place behind each, the words then known and its name."""
+    """Identifiers one after another: what `show` makes of the place after each, the words then known and
+    its name."""
     words, at, out = [], 0, b""
     while at < len(t):
         try:
@@ -229,7 +236,6 @@ CASES = ([("n", t) for t in NUMBERS] + [("i", t) for t in NUMBERS] + [("j", t) f
 CASES += [(c, t) for c in "wcp" for t in words()]
 CASES = [(c, t) for c, t in CASES if b"\n" not in t]
 
-with open("crates/leaves/stdin", "wb") as f:
-    f.write(b"".join(c.encode() + t + b"\n" for c, t in CASES))
-with open("crates/leaves/stdout", "wb") as f:
-    f.write(b"".join(answer(c, t) + b"\n" for c, t in CASES))
+for name, lines in (("stdin", [c.encode() + t for c, t in CASES]), ("stdout", [answer(c, t) for c, t in CASES])):
+    with open(os.path.join(sys.argv[1], name), "ab") as f:
+        f.write(b"".join(line + b"\n" for line in lines))

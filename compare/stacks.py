@@ -1,17 +1,17 @@
 #!/usr/bin/env python3
-"""Composes the lines of the test program `stacks`, with their answers by the instrumented Rust.
+"""Bodies stopped after k turns, as cases of the test program `vectors`.
 
-compare/stacks builds VECTORS, the program of compare/src/vectors.rs with the instrumented copy of
-the Rust source, and runs this:
+compare/vectors and compare/stacks build VECTORS, the program of compare/src/vectors.rs with the
+instrumented copy of the Rust source, and run this:
 
-  stacks.py VECTORS FOLDER                 writes FOLDER/stdin and FOLDER/stdout
-  stacks.py VECTORS --search COUNT OURS    writes nothing: makes COUNT lines more, changed at random,
-                                           and prints those on which OURS and the copy differ
+  stacks.py VECTORS FOLDER                 appends the cases to FOLDER/stdin and their answers to
+                                           FOLDER/stdout
+  stacks.py VECTORS --search COUNT OURS    writes nothing: makes COUNT bodies more, changed at random,
+                                           and prints the cases on which OURS and the copy differ
 
-A line is `k body`: the body, as a type, is run with a ceiling of 256 and stopped after k turns. The
-answer is `=` and kind, size and count of each node on the stack, bottom first; or `!`, number and
-place. It is written twice, with a tab between: once for the reading, once for the check. None of
-our own code makes an answer.
+Each body, as a type, is run with a ceiling of 256 and stopped after k turns. It is two cases, the
+reading and the check; compare/src/vectors.rs says what a case and an answer are. The answers are the
+instrumented copy's: none of our own code makes one.
 
 The ceiling of 256 is passed before 4,096 operators or 256 wraps are, so 6 does not occur here and 8
 occurs by counts only. The list takes every arm and every conditional block of the source's stack
@@ -24,12 +24,12 @@ import subprocess
 import sys
 
 N = 256
-ROOM = 65536  # what the program reads at once
 END = 999  # a k past the body's end
+PART = 1 << 20  # bytes that OURS is given at once; it takes 1,572,864
 
-# a case of compare/src/vectors.rs: the reading of a type, stopped
-TYPE_STOPPED = 5
-WORKSPACE = 64 * N
+# the stopped calls on a type: their numbers, and the numbers of workspace for each node
+READING = (5, 64)
+CHECK = (7, 8)
 MOST_ENTRIES = 3 * N  # three numbers for each node, of which the ceiling allows N
 
 STANDARD = "aAbDdfhIiJNnOPpRrSsuVvWwqBEeFGHjKkLlMmQTtUXxYyZz"
@@ -69,7 +69,7 @@ THUNKS = list("qujVoODIXm")
 
 
 def operators():
-    """Each operator behind what it takes."""
+    """Each operator after what it takes."""
     yield from TYPE + MODULE + NAME + PROTOCOL + ENTITY + REQUIREMENT
     for c in STANDARD:
         yield "S" + c
@@ -211,7 +211,8 @@ def turns(body):
     return sorted({1 + n // 6, 2 + n // 3, END})
 
 
-def cases():
+def bodies():
+    """Each k and body."""
     seen = set()
     for body in list(operators()) + REFUSED + list(many_nodes()):
         seen.add((END, body))
@@ -237,71 +238,56 @@ def changed(r, body):
     return r.one([body[:a] + body[b:], body[:b] + body[a:], body[:c] + other[d:], body[:c] + r.one("AAASyy_dKtcXYxqQzmpGRlrFvfZMNWwTaVCOPsgi0123") + body[c:], body + other, body[:c] + r.one(["AA", "AB", "AC", "A2b", "Ab", "y", "_", "Si"]) + body[c:]])
 
 
-def lines_of(some):
-    return "".join("%d %s\n" % (k, body) for k, body in some).encode()
+def cases(k, body):
+    """The two cases of a body."""
+    return ["%d\t%d\t%d\t%d\t%d\t%s\n" % (call, N, k, a_node * N, MOST_ENTRIES, body.encode().hex()) for call, a_node in (READING, CHECK)]
 
 
-def output_of(command, text):
-    return subprocess.run(command, input=text, stdout=subprocess.PIPE, check=True).stdout
+def output_of(command, lines):
+    return subprocess.run(command, input="".join(lines), stdout=subprocess.PIPE, check=True, encoding="ascii").stdout
 
 
-def spelled(answer):
-    """An answer of VECTORS as the program `stacks` writes it."""
-    head, written = answer.split("\t")
-    number, place = head.split(" ")[:2]
-    if number != "0":
-        return "! %s %s" % (number, place)
-    numbers = written.split()
-    return " ".join(["="] + [",".join(numbers[i:i + 3]) for i in range(0, len(numbers), 3)])
-
-
-def answers(vectors, some):
-    """What the instrumented copy of the Rust answers to these lines."""
-    cases = "".join("%d\t%d\t%d\t%d\t%d\t%s\n" % (TYPE_STOPPED, N, k, WORKSPACE, MOST_ENTRIES, body.encode().hex()) for k, body in some)
-    lines = output_of([vectors, "answers"], cases.encode()).decode().splitlines()
-    return "".join("%s\t%s\n" % (spelled(line), spelled(line)) for line in lines).encode()
+def answers(vectors, lines):
+    """What the instrumented copy of the Rust answers to these cases."""
+    return output_of([vectors, "answers"], lines)
 
 
 def search(vectors, count, ours):
-    """Prints the lines that differ and returns how many there are."""
+    """Prints the cases that differ and returns how many there are."""
     r = Numbers(count)
-    bodies = list(operators()) + COMPOSED + list(many_nodes())
+    known = list(operators()) + COMPOSED + list(many_nodes())
     differ = done = 0
     while done < count:
-        part, size = [], 0
-        while size < ROOM - 3000 and done < count:
-            body = r.one([r.one(bodies), entity(r, 1 + r.below(2)), recorded(r, 1 + r.below(3)), kind_of(r, r.below(4))])
+        lines, size = [], 0
+        while size < PART and done < count:
+            body = r.one([r.one(known), entity(r, 1 + r.below(2)), recorded(r, 1 + r.below(3)), kind_of(r, r.below(4))])
             for _ in range(r.below(4)):
                 body = changed(r, body)[:1000]
-            part.append((r.one([END, END, END, 1 + r.below(20)]), body))
-            size += len(body.encode()) + 4
+            both = cases(r.one([END, END, END, 1 + r.below(20)]), body)
+            lines += both
+            size += sum(map(len, both))
             done += 1
-        text = lines_of(part)
-        rows = [text.split(b"\n"), output_of([ours], text).split(b"\n"), answers(vectors, part).split(b"\n")]
-        assert len(set(map(len, rows))) == 1, "as many answers as lines"
-        for line, mine, theirs in zip(*rows):
-            if mine != theirs:
+        mine, theirs = output_of([ours], lines).splitlines(), answers(vectors, lines).splitlines()
+        assert len(mine) == len(theirs) == len(lines), "as many answers as cases"
+        for line, a, b in zip(lines, mine, theirs):
+            if a != b:
                 differ += 1
-                print(line.decode(), mine.decode(), theirs.decode(), sep="\n  ")
-    print(done, "lines,", differ, "differ")
+                print(line.rstrip("\n"), a, b, sep="\n  ")
+    print("%d bodies, %d cases, %d differ" % (done, 2 * done, differ))
     return differ
 
 
-def write(vectors, folder):
-    some = list(cases())
-    text = lines_of(some)
-    assert len(text) <= ROOM
-    os.makedirs(folder, exist_ok=True)
-    for name, content in (("stdin", text), ("stdout", answers(vectors, some))):
-        with open(os.path.join(folder, name), "wb") as f:
+def append(vectors, folder):
+    lines = [line for k, body in bodies() for line in cases(k, body)]
+    for name, content in (("stdin", "".join(lines)), ("stdout", answers(vectors, lines))):
+        with open(os.path.join(folder, name), "a") as f:
             f.write(content)
-    print(len(some), "lines")
 
 
 def main():
     if sys.argv[2] == "--search":
         sys.exit(1 if search(sys.argv[1], int(sys.argv[3]), sys.argv[4]) else 0)
-    write(sys.argv[1], sys.argv[2])
+    append(sys.argv[1], sys.argv[2])
 
 
 main()
