@@ -1,6 +1,6 @@
 -- The loops over the pieces of a name. Assumes nothing.
 use mathlib.Core.Path.{_≡_, refl, sym, ap, _∙_, subst, subst⁻¹}
-use mathlib.Core.Bool.{Bool, true, false, _&&_}
+use mathlib.Core.Bool.{Bool, true, false, _&&_, and-eq-true-iff}
 use mathlib.Core.List.{List, [], _∷_, _++_}
 use Prim.Native.Nat.{ℕ, _+_, _-_, _*_, _≤_, _<_}
 use mathlib.Core.Logic.{_⊎_, inl, inr}
@@ -59,14 +59,10 @@ same-parts [] n f = refl
 same-parts (x ∷ a) n [] = refl
 same-parts (x ∷ a) n (y ∷ f) = ap (λ (b : Bool). eqb x y && b) (same-parts a n f) ∙ and-assoc (eqb x y) (same a (take (length a) f)) (same n (drop (length a) f))
 
-under : (a b : Bool) → (a && b) ≡ true → b ≡ true
-under true b e = e
-under false b e = absurd (differ (sym e))
-
 same-long : (a f : Name) → same a (take (length a) f) ≡ true → length a ≤ length f
 same-long [] f e = omega arith
 same-long (x ∷ a) [] e = absurd (differ (sym e))
-same-long (x ∷ a) (y ∷ f) e = let h : length a ≤ length f = same-long a f (under (eqb x y) (same a (take (length a) f)) e) in omega arith
+same-long (x ∷ a) (y ∷ f) e = let h : length a ≤ length f = same-long a f (and-eq-true-iff (eqb x y) (same a (take (length a) f)) .0 e .1) in omega arith
 
 -- A LENGTH AND ITS BYTES, WHERE NO WORDS BY LETTER MAY COME
 -- no text is left behind them

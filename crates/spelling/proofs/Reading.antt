@@ -1,6 +1,6 @@
 -- An identifier that was read is spelled, piece by piece, by every later table. Assumes nothing.
 use mathlib.Core.Path.{_≡_, refl, sym, ap, _∙_, subst, subst⁻¹}
-use mathlib.Core.Bool.{Bool, true, false, _&&_, not}
+use mathlib.Core.Bool.{Bool, true, false, _&&_, not, and-eq-true-iff}
 use mathlib.Core.List.{List, [], _∷_, _++_, append-nil, append-assoc}
 use mathlib.Core.Option.{Option, some, none}
 use Prim.Native.Nat.{ℕ, zero, suc, _-_}
@@ -200,10 +200,6 @@ zero-there (c ∷ t) zero₁ e h = go (is "0" c) e
     go true k = refl
     go false k = let z : false ≡ zero₁ = cc in z ∙ h
 
-first-of : (a b : Bool) → (a && b) ≡ true → a ≡ true
-first-of true b e = refl
-first-of false b e = e
-
 -- an identifier behind its lead
 pub spelled-again : (vs ws : List Name) (t u v : Text) (r : Identified) (l : Lead) → identifier ws t ≡ ok r u → Looked t (r .words) vs → start t ≡ ok l v →
     Follows vs (l .punycoded) (piece-of vs (l .more) (l .punycoded) v) (r .name)
@@ -218,7 +214,7 @@ spelled-again vs ws t u v r l e later k =
     let begun : start t ≡ ok (lead m (b .value)) (b .state) = then-ok second-zero (a .is) ∙ then-ok (λ p. ret (lead (a .value && not p) p)) (b .is) in
     let same-lead : lead m (b .value) ≡ l = same-value (sym begun ∙ k) in
     let same-text : b .state ≡ v = same-state (sym begun ∙ k) in
-    let h = from vs (b .value) (suc (length t)) m ws [] (b .state) (d .state) (d .value) (d .is) (λ k. subst⁻¹ (λ (x : Identified). Begins (x .words) vs) same-read (later (zero-there t (a .value) (a .is) (first-of (a .value) (not (b .value)) k)))) in
+    let h = from vs (b .value) (suc (length t)) m ws [] (b .state) (d .state) (d .value) (d .is) (λ k. subst⁻¹ (λ (x : Identified). Begins (x .words) vs) same-read (later (zero-there t (a .value) (a .is) (and-eq-true-iff (a .value) (not (b .value)) .0 k .0)))) in
     let name-is : r .name ≡ h .rest = ap (λ (x : Identified). x .name) (sym same-read) ∙ h .is in
     subst⁻¹ (Follows vs (l .punycoded) (piece-of vs (l .more) (l .punycoded) v)) name-is
     (subst (λ (x : Lead). Follows vs (x .punycoded) (piece-of vs (x .more) (x .punycoded) v) (h .rest)) same-lead

@@ -11,30 +11,14 @@ use pieces::Piece;
 use pieces::first;
 use pieces::next_piece;
 use pieces::of_length;
-
-// Whether the text begins with these bytes.
-fn begins(text: &[u8], front: &[u8]) -> bool
-    ensures { λ r. ⌜ r ≡ same (now (front .entry)) (take (length (now (front .entry))) (now (text .entry))) ⌝ }
-{
-    let mut i = 0;
-    while i < front.len() {
-        if text.len() <= i {
-            return false;
-        }
-        if text[i] != front[i] {
-            return false;
-        }
-        i += 1;
-    }
-    true
-}
+use symbols::starts_with;
 
 // Whether text[from..to] stands in `fixed` from k on.
 fn stands(fixed: &[u8], k: usize, text: &[u8], from: usize, to: usize) -> bool
     requires { ⌜ (k ≤ length (now fixed)) × ((from ≤ to) × (to ≤ length (now text))) ⌝ }
     ensures { λ r. ⌜ r ≡ same (part (now (text .entry)) from to) (take (length (part (now (text .entry)) from to)) (drop k (now (fixed .entry)))) ⌝ }
 {
-    begins(&fixed[k..], &text[from..to])
+    starts_with(&fixed[k..], &text[from..to])
 }
 
 // The length of the name at p.

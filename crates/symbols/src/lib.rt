@@ -21,7 +21,7 @@ pub enum Symbol {
 }
 
 // Whether the text begins with these bytes.
-fn starts_with(text: &[u8], front: &[u8]) -> bool
+pub fn starts_with(text: &[u8], front: &[u8]) -> bool
     ensures { λ r. ⌜ r ≡ same (now (front .entry)) (take (length (now (front .entry))) (now (text .entry))) ⌝ }
 {
     let mut i = 0;

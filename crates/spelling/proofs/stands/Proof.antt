@@ -11,43 +11,43 @@ use borrow.Author.Needs.{needs}
 use Rattle.spelling.proofs.stands.Statement.{statement}
 use Rattle.spelling.proofs.stands.Tie as tie
 
-sub-begins : tie.Need-sub-begins
-sub-begins c = search needs
+sub-starts-with : tie.Need-sub-starts-with
+sub-starts-with c = search needs
 
-part-begins-start : tie.Need-part-begins-start
-part-begins-start c = search needs
+part-starts-with-start : tie.Need-part-starts-with-start
+part-starts-with-start c = search needs
 
-part-begins-end : tie.Need-part-begins-end
-part-begins-end c = search needs
+part-starts-with-end : tie.Need-part-starts-with-end
+part-starts-with-end c = search needs
 
-sub-begins-2 : tie.Need-sub-begins-2
-sub-begins-2 c = search needs
+sub-starts-with-2 : tie.Need-sub-starts-with-2
+sub-starts-with-2 c = search needs
 
-part-begins-start-2 : tie.Need-part-begins-start-2
-part-begins-start-2 c = search needs
+part-starts-with-start-2 : tie.Need-part-starts-with-start-2
+part-starts-with-start-2 c = search needs
 
-part-begins-end-2 : tie.Need-part-begins-end-2
-part-begins-end-2 c = search needs
+part-starts-with-end-2 : tie.Need-part-starts-with-end-2
+part-starts-with-end-2 c = search needs
 
-begins-requires : tie.Need-begins-requires
-begins-requires c κs = search needs
+starts-with-requires : tie.Need-starts-with-requires
+starts-with-requires c κs = search needs
 
 returns : tie.Need-returns
 returns c =
     let x = drop (c .before .before .before .before .before .args .k) (c .before .before .before .before .before .args .fixed .now) in
     let a = part (c .before .before .before .before .before .args .text .now) (c .before .before .before .before .before .args .from) (c .before .before .before .before .before .args .to) in
     let l : length x ≤ length (c .before .before .before .before .before .args .fixed .now) - c .before .before .before .before .before .args .k = simp length-drop (omega arith) in
-    c .begins .ensures ∙ ap (λ (f : List ℕ). same a (take (length a) f)) (take-all (length (c .before .before .before .before .before .args .fixed .now) - c .before .before .before .before .before .args .k) x l)
+    c .starts-with .ensures ∙ ap (λ (f : List ℕ). same a (take (length a) f)) (take-all (length (c .before .before .before .before .before .args .fixed .now) - c .before .before .before .before .before .args .k) x l)
 
 pub stands-spec : {M : Type 1} → statement M
 stands-spec =
     tie.close
     (tie.spec
-    sub-begins
-    part-begins-start
-    part-begins-end
-    sub-begins-2
-    part-begins-start-2
-    part-begins-end-2
-    begins-requires
+    sub-starts-with
+    part-starts-with-start
+    part-starts-with-end
+    sub-starts-with-2
+    part-starts-with-start-2
+    part-starts-with-end-2
+    starts-with-requires
     returns)
