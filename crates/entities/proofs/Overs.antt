@@ -2,7 +2,7 @@
 use mathlib.Core.Path.{_≡_, refl, sym, ap, _∙_, subst}
 use mathlib.Core.Bool.{Bool}
 use mathlib.Core.List.{List, [], _∷_}
-use Prim.Native.Nat.{ℕ, _+_, _-_}
+use Prim.Native.Nat.{ℕ, _+_}
 use Prim.Native.String.{String}
 use native.Mathlib.Omega.{arith}
 use Rattle.definition.specs.Base.{bytes, refused, and-then}
@@ -16,10 +16,9 @@ use Rattle.records.specs.Holds.{Fixed, Names, Named, Spare, Holds, Ready, for-r
 use Rattle.records.specs.declared.State.{State}
 use Rattle.definition.specs.declared.Refusal.the-variants as Refusal
 use Rattle.nodes.specs.declared.Step.the-variants as Step
-use Rattle.nodes.specs.Gives.{nothing-spare, full-spare, taken, Given, Gives, Operates, Left, Beyond}
+use Rattle.nodes.specs.Gives.{nothing-spare, full-spare, taken, Given, Gives, Under, Operates, Left, Beyond}
 use Rattle.nodes.proofs.Taking.{less-spare}
 use Rattle.nodes.proofs.OneChilds.{given-size, given-room}
-use Rattle.entity_records.specs.Leaves.{Under}
 use Rattle.entities.specs.Entities.{OneOver, one-over}
 
 -- a tree that was taken may be a child of a record that is pushed

@@ -1,7 +1,7 @@
 -- Records of entities: those in a context and of a type.
 use mathlib.Core.Path.{_≡_, refl, sym, ap, _∙_, subst}
 use mathlib.Core.List.{List, [], _∷_}
-use Prim.Native.Nat.{ℕ, _+_, _-_, _<_}
+use Prim.Native.Nat.{ℕ, _+_, _<_}
 use native.Mathlib.Omega.{arith}
 use lib.ListN.{getD}
 use Rattle.definition.specs.Base.{Name, bytes, refused, Done}
@@ -18,9 +18,9 @@ use Rattle.records.specs.Holds.{Fixed, Names, Named, Spare, Inside, Holds, Grew
 use Rattle.records.specs.declared.State.{State}
 use Rattle.nodes.specs.declared.Step.{Step}
 use Rattle.nodes.specs.declared.Step.the-variants as Step
-use Rattle.nodes.specs.Gives.{spare, nothing-spare, Left, GivesName, TakesName}
+use Rattle.nodes.specs.Gives.{spare, nothing-spare, Under, Left, GivesName, TakesName}
 use Rattle.nodes.proofs.Taking.{less-spare, beyond-itself}
-use Rattle.entity_records.specs.Leaves.{Under, Entity, LeavesVariable}
+use Rattle.entity_records.specs.Leaves.{Entity, LeavesVariable}
 use Rattle.nodes.specs.declared.NameTaken.{NameTaken}
 use Rattle.nodes.specs.declared.NameTaken.the-variants as NameTaken
 

@@ -2,7 +2,7 @@
 use mathlib.Core.Path.{_≡_}
 use mathlib.Core.List.{List}
 use mathlib.Core.Option.{Option, some, none}
-use Prim.Native.Nat.{ℕ, _+_, _^_, _≤_, _<_}
+use Prim.Native.Nat.{ℕ, _+_, _≤_, _<_}
 use Prim.Native.String.{String}
 use Rattle.definition.specs.Base.{Name, Late, good, bad, judge, refused, Done, _>>=_}
 use Rattle.definition.specs.Node.{Node, Variable, size}
@@ -14,15 +14,9 @@ use Rattle.definition.specs.declared.Accessor.the-variants as Accessor
 use Rattle.nodes.specs.declared.Step.{Step}
 use Rattle.nodes.specs.declared.Step.the-variants as Step
 use Rattle.records.specs.Lies.{at, Lies}
-use Rattle.records.specs.Holds.{Fixed, Names, Named, Spare, Inside, Holds}
+use Rattle.records.specs.Holds.{Fixed, Names, Named, Spare, Holds}
 use Rattle.records.specs.declared.State.{State}
 use Rattle.nodes.specs.Gives.{most, Beyond, spare, Ran}
-
--- the tree at place p may be a child of a record that is pushed
-pub record Under (w : List ℕ) (N : ℕ) (st : State) (p : ℕ) : Type 0 where
-  pub inside : Inside w N st 5 1 0
-  pub below : p < st .top
-  pub fits : at w p 1 + 1 < 2 ^ 32
 
 -- ENTITIES
 -- the trees at c and ty may be children of a record that is made

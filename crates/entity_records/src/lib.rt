@@ -2,9 +2,9 @@
 ghost use mathlib.Core.List.{[], _∷_};
 ghost use Prim.Native.Nat.{_+_};
 ghost use Rattle.records.specs.Lies.{at};
-ghost use Rattle.records.specs.Holds.{Inside, Named, Grew};
-ghost use Rattle.nodes.specs.Gives.{Left};
-ghost use Rattle.entity_records.specs.Leaves.{Under, Entity, LeavesVariable};
+ghost use Rattle.records.specs.Holds.{Inside, Grew};
+ghost use Rattle.nodes.specs.Gives.{Under, Left};
+ghost use Rattle.entity_records.specs.Leaves.{Entity, LeavesVariable};
 use definition::Accessor;
 use definition::Refusal;
 use nodes::Step;

@@ -3,7 +3,7 @@ use mathlib.Core.Path.{_≡_}
 use mathlib.Core.Bool.{Bool}
 use mathlib.Core.List.{List, [], _∷_, _++_}
 use mathlib.Core.Option.{Option, some, none}
-use Prim.Native.Nat.{ℕ, _+_, _*_, _≤_, _<_, _/_, _%_}
+use Prim.Native.Nat.{ℕ, _+_, _*_, _^_, _≤_, _<_, _/_, _%_}
 use Prim.Native.String.{String}
 use lib.ListN.{length, getD}
 use Rattle.definition.specs.Base.{Name, ok, refused, Done, ret, _>>=_}
@@ -12,7 +12,7 @@ use Rattle.definition.specs.Perform.{Demangler, Run, pop-if, function-params}
 use Rattle.definition.specs.Machine.{machine, restack, push, wrap}
 use Rattle.definition.specs.Enums.{number}
 use Rattle.records.specs.Lies.{at, Child, Body, Lies, Would}
-use Rattle.records.specs.Holds.{Fixed, Names, Named, Spare, Holds, Keeps, for-record, for-push, for-keeping}
+use Rattle.records.specs.Holds.{Fixed, Names, Named, Spare, Inside, Holds, Keeps, for-record, for-push, for-keeping}
 use Rattle.records.specs.declared.State.{State}
 use Rattle.records.specs.declared.Popped.{Popped}
 use Rattle.records.specs.declared.Popped.the-variants as Popped
@@ -57,6 +57,12 @@ pub record Gives (f : Run Node) (gain : ℕ) (w w′ : List ℕ) (N : ℕ) (st :
   pub small : at w′ p 1 ≤ most
   pub keeps : Keeps w w′ N (st .top)
   pub gives : (nm : Names) (sp : Spare) (m : Demangler) → Holds nm w N st sp m → Given f gain nm w′ N p u sp m
+
+-- the tree at place p may be a child of a record that is pushed
+pub record Under (w : List ℕ) (N : ℕ) (st : State) (p : ℕ) : Type 0 where
+  pub inside : Inside w N st 5 1 0
+  pub below : p < st .top
+  pub fits : at w p 1 + 1 < 2 ^ 32
 
 -- nothing past 64 × N changes
 pub record Beyond (w w′ : List ℕ) (N : ℕ) : Type 0 where

@@ -2,21 +2,15 @@
 use mathlib.Core.Path.{_≡_}
 use mathlib.Core.List.{List}
 use mathlib.Core.Option.{Option}
-use Prim.Native.Nat.{ℕ, _+_, _*_, _^_, _≤_, _<_}
+use Prim.Native.Nat.{ℕ, _+_, _*_, _≤_}
 use Rattle.definition.specs.Base.{ok}
 use Rattle.definition.specs.Kind as K
 use Rattle.definition.specs.Node.{Node, many}
 use Rattle.definition.specs.Perform.{Demangler, try, one-or-none}
-use Rattle.records.specs.Lies.{at, Cells}
-use Rattle.records.specs.Holds.{Names, Named, Spare, Inside, Holds, Keeps}
+use Rattle.records.specs.Lies.{Cells}
+use Rattle.records.specs.Holds.{Names, Named, Spare, Holds, Keeps}
 use Rattle.records.specs.declared.State.{State}
 use Rattle.record_parts.specs.declared.Qualified.{Qualified}
-
--- the tree at place p may be the child of a record that is pushed
-pub record Under (w : List ℕ) (N : ℕ) (st : State) (p : ℕ) : Type 0 where
-  pub inside : Inside w N st 5 1 0
-  pub below : p < st .top
-  pub fits : at w p 1 + 1 < 2 ^ 32
 
 -- a protocol was taken if there was one, and its cell lies in w: wherever field 6 of a later record is its place
 pub record Qualifier (nm : Names) (w : List ℕ) (N : ℕ) (r : Qualified) (sp : Spare) (m : Demangler) : Type 0 where

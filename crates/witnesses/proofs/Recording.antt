@@ -6,16 +6,12 @@ use Prim.Native.String.{String}
 use native.Mathlib.Omega.{arith}
 use lib.ListN.{getD}
 use Rattle.definition.specs.Base.{Name, bytes, refused, Done, and-then, _>>=_}
-use Rattle.definition.specs.Enums as Enums
 use Rattle.definition.specs.Enums.{number}
 use Rattle.definition.specs.Node.{Node, Record, DependentMember, kind, size, count, view}
 use Rattle.definition.specs.Machine.{restack, push}
 use Rattle.definition.specs.Operators as Op
 use Rattle.definition.specs.Perform as R
 use Rattle.definition.specs.Perform.{Demangler, Run}
-use Rattle.definition.specs.declared.About.{About}
-use Rattle.definition.specs.declared.About.the-variants as About
-use Rattle.definition.specs.declared.Operator.the-variants as Operator
 use Rattle.definition.specs.declared.Refusal.{Refusal}
 use Rattle.definition.specs.declared.Refusal.the-variants as Refusal
 use Rattle.records.specs.Lies.{at, Lies, WordsOf, fixed, numbered}
@@ -26,13 +22,11 @@ use Rattle.nodes.specs.declared.Built.the-variants as Built
 use Rattle.nodes.specs.declared.NameTaken.{NameTaken}
 use Rattle.nodes.specs.declared.NameTaken.the-variants as NameTaken
 use Rattle.nodes.specs.declared.Step.the-variants as Step
-use Rattle.nodes.specs.Gives.{spare, nothing-spare, full-spare, taken, for-nodes, low-half, high-half, Given, Gives, GivenName, GivesName, TakesName, Building, Builds, Left, Operates}
+use Rattle.nodes.specs.Gives.{spare, nothing-spare, full-spare, taken, for-nodes, low-half, high-half, Given, Gives, Under, GivenName, GivesName, TakesName, Building, Builds, Left, Operates}
 use Rattle.nodes.proofs.Taking.{less-spare}
 use Rattle.nodes.proofs.Making.{halves, fixed-name}
 use Rattle.nodes.proofs.Ready.{ready-less, after-grew}
-use Rattle.record_parts.specs.Parts.{Under}
-use Rattle.witnesses.specs.Witnesses.{record-over}
-use Rattle.record_parts.proofs.Abouts.{Not, an-entity}
+use Rattle.record_parts.proofs.Abouts.{Not}
 
 -- WHAT IS LEFT TO SPARE
 -- an operator's spare without one node
@@ -83,15 +77,6 @@ module _ (f : Run Node) {w w₁ w₂ : List ℕ} {N : ℕ} {st u v : State} {p :
     past = λ i h. l .keeps .past i h ∙ g .keeps .past i h;
     long = l .keeps .long ∙ g .keeps .long;
   }
-
--- these are the definition's operators
-pub record-performed : (N : ℕ) (s : ℕ → String) (a : About) (n : ℕ) → R.perform N (Enums.operator s (Operator.Record a n)) ≡ record-over (Enums.about a) (λ f. bytes (f n)) s
-unfolding R.perform Enums.operator
-record-performed N s a n = refl
-
-pub suspend-resume-performed : (N : ℕ) (s : ℕ → String) (i : ℕ) → R.perform N (Enums.operator s (Operator.SuspendResume i)) ≡ record-over Op.an-entity (λ f. Op.suspend-resume-text i) s
-unfolding R.perform Enums.operator
-suspend-resume-performed N s i = refl
 
 -- an operator whose first take is refused
 pub first-refused : (f : Run Node) (g : (ℕ → String) → Node → Run Done) {w w′ : List ℕ} {N : ℕ} {st : State} (r : Refusal) → Not f (number r) w w′ N st → Operates (λ s. f >>= λ x. g s x) w w′ N st (Step.Refused r)
