@@ -29,8 +29,8 @@ use Rattle.records.specs.Holds.{Names, Named, Holds, Ready}
 use Rattle.records.specs.Lies.{Lies}
 use Rattle.records.specs.declared.State.{State}
 use Rattle.reading.specs.Runs as R
-use Rattle.reading.specs.declared.Left as Left-end
-use Rattle.reading.specs.declared.Left.the-variants as Left
+use Rattle.reading.specs.declared.Sole as Sole-end
+use Rattle.reading.specs.declared.Sole.the-variants as Sole
 use Rattle.reading.specs.declared.Ended as Read
 use Rattle.reading.specs.declared.Ended.the-variants as Ended
 use Rattle.runs.specs.Ends.{kinds-of, Writing}
@@ -64,18 +64,18 @@ module _ (what : Final) (body suffix : Text) (end : ℕ) (words : Words) (w : Li
   printed x {p} all l = record { tree = x; lies = lies-more body (noted (table body words) all) (noted (table body words) (table body words)) (begins-refl (table body words)) x w p l; is = refl }
 
   -- what the printer requires of the tree that is left
-  pub left-world : (p : ℕ) → Held body words w N st → R.Singles w N st what (Left.At p) → World body words w p
+  pub left-world : (p : ℕ) → Held body words w N st → R.Singles w N st what (Sole.At p) → World body words w p
   left-world p h s =
       let a = s (with-all (h .all)) (h .machine) (h .holds) in
       record { known = h .known; long = omega (arith, a .below, h .holds .room, h .holds .charged, h .holds .long) }
 
-  pub left-prints : (p : ℕ) → Held body words w N st → R.Singles w N st what (Left.At p) → Some (Prints (naming body words) w p)
+  pub left-prints : (p : ℕ) → Held body words w N st → R.Singles w N st what (Sole.At p) → Some (Prints (naming body words) w p)
   left-prints p h s =
       let a = s (with-all (h .all)) (h .machine) (h .holds) in
       record { text = print (a .tree); is = printed (a .tree) (h .all) (a .lies) }
 
   -- its text
-  pub finishes-at : (p n : ℕ) (out out′ : List ℕ) (r : Answer) → R.Singles w N st what (Left.At p) → Rendered (naming body words) w p suffix out out′ n → Measured (budget-of (st .budget)) n (length out) r →
+  pub finishes-at : (p n : ℕ) (out out′ : List ℕ) (r : Answer) → R.Singles w N st what (Sole.At p) → Rendered (naming body words) w p suffix out out′ n → Measured (budget-of (st .budget)) n (length out) r →
       Finishes what body suffix end words w N st out out′ r
   unfolding finished
   finishes-at p n out out′ r s d m = record {
@@ -88,7 +88,7 @@ module _ (what : Final) (body suffix : Text) (end : ℕ) (words : Words) (w : Li
         (shown-answers (mach .budget) (print (a .tree) ++ suffix-text (sym₁ .suffix)) out out′ r n shown₁ m₁);
   }
 
-  pub finishes-not : (out : List ℕ) → R.Singles w N st what Left.Nothing → Finishes what body suffix end words w N st out out (Answer.Refused Refusal.Leftover end)
+  pub finishes-not : (out : List ℕ) → R.Singles w N st what Sole.Nothing → Finishes what body suffix end words w N st out out (Answer.Refused Refusal.Leftover end)
   unfolding finished number
   finishes-not out s = record {
     each = λ sym₁ mach all e q h.
@@ -146,8 +146,8 @@ module _ {N k : ℕ} {body : Text} {w w′ : List ℕ} where
   was-stopped words e q h = subst (R.Ending N k body w w′ words) q h
 
 module _ {w : List ℕ} {N : ℕ} {st : State} (what : Final) where
-  pub was-at : (l : Left-end.Left) {p : ℕ} → l ≡ Left.At p → R.Singles w N st what l → R.Singles w N st what (Left.At p)
+  pub was-at : (l : Sole-end.Sole) {p : ℕ} → l ≡ Sole.At p → R.Singles w N st what l → R.Singles w N st what (Sole.At p)
   was-at l q h = subst (R.Singles w N st what) q h
 
-  pub was-nothing : (l : Left-end.Left) → l ≡ Left.Nothing → R.Singles w N st what l → R.Singles w N st what Left.Nothing
+  pub was-nothing : (l : Sole-end.Sole) → l ≡ Sole.Nothing → R.Singles w N st what l → R.Singles w N st what Sole.Nothing
   was-nothing l q h = subst (R.Singles w N st what) q h

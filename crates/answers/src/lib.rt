@@ -17,7 +17,7 @@ use definition::Refusal;
 use endings::measured;
 use endings::stacked;
 use reading::Ended;
-use reading::Left;
+use reading::Sole;
 use records::State;
 use runs::Final;
 use words::Words;
@@ -38,7 +38,7 @@ fn finish(
     ensures { λ r. ⌜ Finishes what (now (body .entry)) (now (suffix .entry)) end words (now (ws .entry)) ceiling st (now (out .entry)) (now (out .exit)) r ⌝ }
 {
     match reading::single(ws, ceiling, st, what) {
-        Left::At(p) => {
+        Sole::At(p) => {
             let room = out.len();
             let starts = words.starts;
             let lengths = words.lengths;
@@ -46,7 +46,7 @@ fn finish(
             let budget = st.budget;
             measured(budget, n, room)
         }
-        Left::Nothing => Answer::Refused(Refusal::Leftover, end),
+        Sole::Nothing => Answer::Refused(Refusal::Leftover, end),
     }
 }
 

@@ -18,8 +18,8 @@ use Rattle.runs.specs.Ends.{kinds-of}
 use Rattle.runs.specs.declared.Final.{Final}
 use Rattle.definition.specs.Node.{Node, kind}
 use mathlib.Core.Option.{some, none}
-use Rattle.reading.specs.declared.Left.{Left}
-use Rattle.reading.specs.declared.Left.the-variants as Left
+use Rattle.reading.specs.declared.Sole.{Sole}
+use Rattle.reading.specs.declared.Sole.the-variants as Sole
 use Rattle.records.specs.declared.State.{State}
 use Rattle.nodes.specs.Gives.{nothing-spare, Beyond}
 use Rattle.words.specs.Table.{table, Fitting}
@@ -59,6 +59,6 @@ pub record SingleAt (w : List ℕ) (N : ℕ) (st : State) (what : Final) (p : �
   pub below : p < st .top
   pub lies : Lies (Named nm) tree w p
 
-abbrev pub Singles : (w : List ℕ) (N : ℕ) (st : State) → Final → Left → Type 0
-Singles w N st what (Left.At p) = (nm : Names) (m : Demangler) → Holds nm w N st nothing-spare m → SingleAt w N st what p nm m
-Singles w N st what Left.Nothing = (nm : Names) (m : Demangler) → Holds nm w N st nothing-spare m → single kind (kinds-of what) (m .stack) ≡ none
+abbrev pub Singles : (w : List ℕ) (N : ℕ) (st : State) → Final → Sole → Type 0
+Singles w N st what (Sole.At p) = (nm : Names) (m : Demangler) → Holds nm w N st nothing-spare m → SingleAt w N st what p nm m
+Singles w N st what Sole.Nothing = (nm : Names) (m : Demangler) → Holds nm w N st nothing-spare m → single kind (kinds-of what) (m .stack) ≡ none

@@ -41,7 +41,7 @@ pub struct Reached {
 }
 
 // The place of the one tree that is left, if it is of a kind that is taken.
-pub enum Left {
+pub enum Sole {
     At(usize),
     Nothing,
 }
@@ -135,19 +135,19 @@ pub fn run(body: &[u8], k: usize, ws: &mut [u32], n: usize) -> Reached
 // Ends
 
 // The one tree that is left, if it is of a kind that is taken.
-pub fn single(ws: &[u32], n: usize, st: State, what: Final) -> Left
+pub fn single(ws: &[u32], n: usize, st: State, what: Final) -> Sole
     requires { ⌜ Ready (now ws) n st nothing-spare ⌝ }
     ensures { λ r. ⌜ Singles (now (ws .entry)) n st what r ⌝ }
 {
     let depth = st.depth;
     if depth != 1 {
-        return Left::Nothing;
+        return Sole::Nothing;
     }
     let p = records::wide(ws[60 * n]);
     if runs::takes(what, records::field(ws, p, 0)) {
-        return Left::At(p);
+        return Sole::At(p);
     }
-    Left::Nothing
+    Sole::Nothing
 }
 
 // The stack's entries, three numbers each, the first pushed first: each tree's kind, size and count.
