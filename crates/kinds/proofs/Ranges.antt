@@ -6,7 +6,7 @@ use Prim.Native.Nat.{ℕ, zero, suc, _+_, _≤_, _<_}
 use native.Mathlib.Omega.{arith}
 use borrow.Author.Tests.{eq-eqb, ne-eqb, le-leb}
 use lib.Dec.{T, eqb, leb, leb→le}
-use Rattle.definition.specs.Kind.{among, is-type, is-context, is-entity}
+use Rattle.definition.specs.Kind.{among, is-type}
 
 -- the n kinds from lo on
 abbrev pub kinds-from : (lo n : ℕ) → List ℕ
@@ -39,6 +39,6 @@ among-parts : (xs ys : List ℕ) (k : ℕ) → among (xs ++ ys) k ≡ (among xs 
 among-parts [] ys k = refl
 among-parts (x ∷ xs) ys k = ap (λ (b : Bool). eqb k x || b) (among-parts xs ys k) ∙ sym (or-assoc (eqb k x) (among xs k) (among ys k))
 
--- the types are 2 to 11 and 15 to 18; the contexts are 1 to 6 and the entities
+-- the types are 2 to 11 and 15 to 18
 pub types-are : (k : ℕ) → is-type k ≡ (among (kinds-from 2 10) k || among (kinds-from 15 4) k)
 types-are k = among-parts (kinds-from 2 10) (kinds-from 15 4) k
