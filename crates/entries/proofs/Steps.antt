@@ -53,9 +53,6 @@ module _ {A : Type 0} {w : List ℕ} {st : State} where
   pub stops : (r : Refusal) → Refuses {A = A} (refuse (number r)) w st r
   stops r = record { is = λ N. refl }
 
-  pub less : {f : Check A} {l m l₁ m₁ : ℕ} {a : A} {u : State} → Went f w st l m a u → l₁ ≤ l → m₁ ≤ m → Went f w st l₁ m₁ a u
-  less h p q = record { is = h .is; depth = omega (arith, h .depth); lighter = omega (arith, h .lighter); seen = h .seen; total = h .total }
-
   module _ {b : Bool} where
     pub yes-went : {f : Check A} (g : Check A) {l m : ℕ} {a : A} {u : State} → b ≡ true → Went f w st l m a u → Went (if b then f else g) w st l m a u
     yes-went {f} g {l} {m} {a} {u} e h = subst (λ (x : Bool). Went (if x then f else g) w st l m a u) (sym e) h

@@ -75,9 +75,6 @@ differ a b t e = absurd (T-not (eqb a b) t (subst (λ (j : ℕ). T (eqb a j)) e 
 passed-T : {b : Bool} → true ≡ b → T b
 passed-T e = subst T e tt
 
-failed-T : {b : Bool} → false ≡ b → T (not b)
-failed-T e = subst (λ (x : Bool). T (not x)) e tt
-
 small-or : (n a b : ℕ) → a < 46 → b < 46 → zero-or n a b < 46
 small-or n a b l m = by-test (eqb n 0)
   where

@@ -4,18 +4,16 @@ use mathlib.Core.Bool.{Bool, true, false, not}
 use mathlib.Core.List.{List, [], _∷_, _++_}
 use Prim.Native.Nat.{ℕ, zero, suc, _+_, _≤_, _<_}
 use native.Mathlib.Omega.{arith}
-use lib.ListN.{length-append, length, getD, drop, length-drop}
+use lib.ListN.{length, getD, drop, length-drop}
 use lib.Seq.{length-take-le}
 use Rattle.definition.specs.Base.{Name, is, Out, ok, refused}
 use Rattle.definition.specs.Text.{Text, next-if}
 use Rattle.definition.specs.Words as W
 use Rattle.definition.specs.Check as C
 use Rattle.text.specs.declared.Cursor.{Cursor}
-use Rattle.definition.proofs.WordsAdded.{Long, WellKept, identifier-begins}
+use Rattle.definition.proofs.WordsAdded.{Long, WellKept}
 use Rattle.words.specs.Table.{word-of, words-of, table, Fitting}
 use Rattle.identifiers.specs.Rounds.{Got, got, named, identifier-of}
-use Rattle.definition.specs.Enums.{number}
-use Rattle.definition.specs.declared.Refusal.{Refusal}
 use Rattle.identifiers.specs.Answers.{Got-table, Got-count, Reads, Answered, Identifies, Counts, Counted}
 use Rattle.identifiers.specs.declared.Identified.{Identified}
 use Rattle.words.specs.declared.Words.{Words}
@@ -100,17 +98,5 @@ module _ (text : Text) (from : ℕ) where
   pub identifier-read : {out : Out Text W.Identified} {r : Identified} {c : Cursor} → r .read ≡ NameRead.Read c → Identifies out text from r → Reads out text from (r .words) c
   identifier-read {out} {r} e h = subst (λ (k : NameRead). Answered out text from k (r .words)) e (h .answer)
 
-  pub identifier-refused : {out : Out Text W.Identified} {r : Identified} {f : Refusal} → r .read ≡ NameRead.Refused f → Identifies out text from r → out ≡ refused (number f)
-  identifier-refused {out} {r} e h = subst (λ (k : NameRead). Answered out text from k (r .words)) e (h .answer)
-
   pub count-read : {out : Out Text C.Identified} {r : CountRead} {n : ℕ} {c : Cursor} → r ≡ CountRead.Read n c → Counted out text from r → Counts out text from n c
   count-read {out} e h = subst (Counted out text from) e h
-
-  pub count-refused : {out : Out Text C.Identified} {r : CountRead} {f : Refusal} → r ≡ CountRead.Refused f → Counted out text from r → out ≡ refused (number f)
-  count-refused {out} e h = subst (Counted out text from) e h
-
--- an identifier only adds words
-pub identifier-adds : (text t : Text) (from : ℕ) (w r : Words) (c : Cursor) → Reads (W.identifier (table text w) t) text from r c → w .count ≤ r .count
-identifier-adds text t from w r c h =
-    let b = identifier-begins (table text w) t (drop (c .at) text) (W.identified (h .name) (table text r)) (h .is) in
-    omega (arith, table-length text w, table-length text r, ap length (b .all), length-append (table text w) (b .more))

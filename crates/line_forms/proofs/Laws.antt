@@ -1,20 +1,17 @@
 -- Answer lines, piece by piece. Assumes nothing.
 use mathlib.Core.Path.{_≡_}
-use mathlib.Core.List.{List, [], _∷_, _++_}
-use Prim.Native.Nat.{ℕ, _+_, _≤_, _<_, _^_}
+use mathlib.Core.List.{List, [], _∷_}
+use Prim.Native.Nat.{ℕ, _≤_, _<_, _^_}
 use native.Mathlib.Omega.{arith}
 use lib.ListN.{length}
 use Rattle.definition.specs.Base.{decimal}
 use Rattle.definition.specs.declared.Counts.{Counts}
-use Rattle.output.specs.Sink.{Room, Wrote, wrote-is, wrote-then}
+use Rattle.output.specs.Sink.{Wrote, wrote-is, wrote-then}
 use Rattle.line_forms.specs.Appends.{longest, Space, Appends}
 use Rattle.line_forms.specs.Lines.{field, refused-line, accepted-line, counts-told}
 use Rattle.line_forms.proofs.Sizes.{refused-short, counts-short}
 
--- ROOM
-pub room-of : {o : List ℕ} {at : ℕ} → Space o at → Room (length o) o at
-room-of {o} h = record { past = omega (arith, h .room); short = omega arith; small = h .small }
-
+-- LINES AND ROOM
 pub appended : {o o′ s : List ℕ} {at r : ℕ} → Space o at → length s ≤ longest → Wrote (length o) o o′ at s r → Appends o o′ at s r
 appended h k w = record { wrote = w; inside = omega (arith, w .count, h .room, k) }
 

@@ -1,8 +1,8 @@
 -- From a call's answer to its line. Assumes nothing.
 use mathlib.Core.Path.{_≡_, refl, sym, ap, subst, _∙_}
-use mathlib.Core.Bool.{Bool, true, false}
+use mathlib.Core.Bool.{false}
 use mathlib.Core.List.{List, [], _∷_, _++_, append-assoc, append-nil}
-use Prim.Native.Nat.{ℕ, zero, suc, _+_, _-_, _≤_, _<_, _^_}
+use Prim.Native.Nat.{ℕ, _+_, _-_, _≤_, _<_}
 use native.Mathlib.Omega.{arith}
 use borrow.Author.Tests.{lt-leb, le-leb}
 use borrow.Rule.Slice.PartMut.{putMid, post-is}
@@ -134,9 +134,6 @@ module _ {o o₁ o₂ : List ℕ} {at m from : ℕ} (h : Space o at) (w : Wrote 
         let s : length (accepted-line (9 ∷ a .written)) ≤ longest = omega (arith, f .short, length-append (a .written) (10 ∷ [])) in
         let t : accepted-line (9 ∷ a .written) ≡ name-answer a = sym (answer-accepted c n (9 ∷ a .written)) ∙ ap (λ (k : Answer). line-answer (values k) (9 ∷ a .written)) (sym q) ∙ ap (λ (v : Values). line-answer v (9 ∷ a .written)) (y .values) in
         appends-is t (appended h s (wrote-then (wrote-then (wrote-then w x) text-wrote) z′))
-
-    pub refused-space : Space o₃ at
-    refused-space = record { room = omega (arith, h .room, still); small = omega (arith, h .small, still) }
 
     pub name-refused : {o₄ : List ℕ} {g : Refusal} {p k e : ℕ} → r ≡ Refused g p → k ≡ number g → Appends o₃ o₄ at (refused-line k p) e → Appends o o₄ at (name-answer a) e
     unfolding name-answer values

@@ -1,5 +1,5 @@
 -- The lines of a buffer, one after the other. Assumes nothing.
-use mathlib.Core.Path.{_≡_, refl, sym, ap, subst, _∙_}
+use mathlib.Core.Path.{_≡_, sym, ap, subst, _∙_}
 use mathlib.Core.List.{List, [], _∷_, _++_, append-assoc, append-nil}
 use Prim.Native.Nat.{ℕ, _+_, _-_, _≤_, _<_, _^_}
 use native.Mathlib.Omega.{arith}
@@ -13,11 +13,6 @@ use Rattle.line_forms.specs.Appends.{longest, Space, Appends}
 use Rattle.line_forms.specs.Lines.{answers}
 use Rattle.line_forms.proofs.Inputs.{one-line, nothing-left}
 use Rattle.lines.specs.Does.{Answered}
-use Rattle.lines.specs.declared.Progress.{Progress}
-
--- how far a count of the rest reaches
-pub inside-rest : (l : List ℕ) (at n : ℕ) → at ≤ length l → n ≤ length (take (length l - at) (drop at l)) → at + n ≤ length l
-inside-rest l at n h k = omega (arith, length-take (length l - at) (drop at l))
 
 -- ANSWERS
 module _ (line : Text → List ℕ) where

@@ -4,7 +4,7 @@ use mathlib.Core.Bool.{Bool, true, false}
 use mathlib.Core.List.{List, [], _∷_}
 use mathlib.Core.Option.{Option, some, none}
 use lib.Dec.{T, eqb}
-use Prim.Native.Nat.{ℕ, _+_, _-_, _*_, _≤_, _<_}
+use Prim.Native.Nat.{ℕ, _+_, _*_, _≤_, _<_}
 use native.Mathlib.Omega.{arith}
 use lib.ListN.{length}
 use Rattle.definition.specs.Base.{ok, refused, if_then_else_, is-some}
@@ -16,16 +16,12 @@ use Rattle.definition.specs.Machine.{restack}
 use Rattle.definition.specs.Perform as R
 use Rattle.definition.specs.Perform.{Demangler, Run}
 use Rattle.records.specs.Lies.{at, Lies}
-use Rattle.records.specs.Holds.{Names, Named, Spare, Inside, Holds, Ready, TopIs, Took, Pops, Keeps}
+use Rattle.records.specs.Holds.{Names, Named, Spare, Holds, Ready, TopIs, Took, Pops, Keeps}
 use Rattle.records.specs.declared.Popped.{Popped}
 use Rattle.records.specs.declared.Popped.the-variants as Popped
 use Rattle.records.specs.declared.State.{State}
 use Rattle.nodes.specs.Gives.{nothing-spare, taken, Gives, GivesIf, Tries, Marks, GivesName, Beyond}
 use Rattle.nodes.proofs.ByKind.{identifier-of}
-
--- the numbers of a machine that lies there
-pub inside : {w : List ℕ} {N : ℕ} {st : State} {sp : Spare} → Ready w N st sp → Inside w N st (sp .makes) (sp .pushes) (sp .keeps)
-inside r = let h = r .holds in record { small = h .small; long = h .long; charged = h .charged; room = h .room; deep = h .deep; kept = h .kept }
 
 -- a place below top is a record inside the workspace
 pub place-inside : {w : List ℕ} {N : ℕ} {st : State} {sp : Spare} (p : ℕ) → p < st .top → Ready w N st sp → 8 * p + 8 ≤ length w

@@ -89,10 +89,6 @@ wrote-then {room} {at} {m} {r} {o} {o1} {o2} {s} {t} a b = record {
       b .text k1 ∙ ap (λ (x : List ℕ). x ++ t ++ drop r o1) t1 ∙ ap (λ (x : List ℕ). (take at o ++ s) ++ t ++ x) d2 ∙ ap (λ (x : List ℕ). x ++ drop r o) (append-assoc (take at o) s t);
 }
 
--- what is past room stays past room, whatever is appended
-pub wrote-past : {room at r : ℕ} {o o' s : List ℕ} (t : List ℕ) → Wrote room o o' at s r → room < r → Wrote room o o' at (s ++ t) r
-wrote-past t w h = wrote-then w (wrote-stays t (w .next) h)
-
 -- In a loop: whoever appends `rest` to o at `at` has appended the whole to o₀ at at₀
 pub record Rest (room : ℕ) (o₀ : List ℕ) (at₀ : ℕ) (whole : List ℕ) (o : List ℕ) (at : ℕ) (rest : List ℕ) : Type 0 where
   pub next : Room room o at

@@ -2,7 +2,7 @@
 use mathlib.Core.Path.{_≡_, refl, sym, ap, subst, _∙_}
 use mathlib.Core.Bool.{true, false}
 use mathlib.Core.List.{List, [], _∷_, _++_}
-use Prim.Native.Nat.{ℕ, suc, _+_, _*_, _≤_, _<_}
+use Prim.Native.Nat.{ℕ, suc, _*_, _≤_, _<_}
 use native.Mathlib.Omega.{arith}
 use lib.ListN.{length, getD, drop}
 use Rattle.definition.specs.Base.{Name, is, digit, Out, ok, refused}
@@ -70,7 +70,7 @@ module _ (text : Text) (ws vs : Noted) (b : Begins (ws .words) (vs .words)) wher
 -- THE NAME
 -- an identifier that was read becomes a node: what was read, what is known then, and that the name can be spelled
 module _ (N : ℕ) (text : Text) (at : ℕ) (l : at < length text) (e : digit (getD text at 0) ≡ true) where
-  pub came-named : {w w₁ : List ℕ} {st u v : State} {c : Cursor} {m : Demangler} (ws vs : Noted) (name : Name) (a : ℕ) → a ≡ at → length text ≤ 65535 → Charged N st u →
+  came-named : {w w₁ : List ℕ} {st u v : State} {c : Cursor} {m : Demangler} (ws vs : Noted) (name : Name) (a : ℕ) → a ≡ at → length text ≤ 65535 → Charged N st u →
       Holds (names-of text ws) w N st nothing-spare m → Begins (ws .words) (vs .words) → W.identifier (ws .all) (drop at text) ≡ ok (W.identified name (vs .all)) (drop (c .at) text) →
       Looked (drop at text) (vs .all) (vs .words) → Kept w w₁ N u v (0 ∷ 1 ∷ 0 ∷ a ∷ 0 ∷ 0 ∷ 0 ∷ 0 ∷ []) → Came (turn N (Reading.one N) (drop at text)) text vs w₁ N v c m
   unfolding then-run Reading.name M.know M.remember M.push kind size count view
@@ -91,7 +91,7 @@ module _ (N : ℕ) (text : Text) (at : ℕ) (l : at < length text) (e : digit (g
             (record { kind-is = refl; size-is = refl; count-is = refl; body = named });
       }
 
-  pub came-refused : {w : List ℕ} {st u : State} {m : Demangler} (ws : Noted) (x : Refusal) → Charged N st u → Holds (names-of text ws) w N st nothing-spare m → W.identifier (ws .all) (drop at text) ≡ refused (number x) →
+  came-refused : {w : List ℕ} {st u : State} {m : Demangler} (ws : Noted) (x : Refusal) → Charged N st u → Holds (names-of text ws) w N st nothing-spare m → W.identifier (ws .all) (drop at text) ≡ refused (number x) →
       turn N (Reading.one N) (drop at text) m ≡ refused (number x)
   unfolding then-run
   came-refused {w} {m = m} ws x g h r =

@@ -1,13 +1,12 @@
 -- Turns at a place of the body, and steps one after another, whatever machine they run over. Assumes nothing.
 use mathlib.Core.Path.{_≡_, refl, sym, ap, _∙_}
-use mathlib.Core.Bool.{Bool}
-use mathlib.Core.List.{List, _∷_}
+use mathlib.Core.List.{_∷_}
 use Prim.Native.Nat.{ℕ, zero, suc, _+_, _-_, _≤_, _<_}
 use lib.ListN.{length, getD, drop, length-drop}
-use Rattle.definition.specs.Base.{digit, Out, ok, refused, Step, Done, and-then}
-use Rattle.definition.specs.Text.{Text, peek}
+use Rattle.definition.specs.Base.{Out, ok, refused, Step, Done, and-then}
+use Rattle.definition.specs.Text.{Text}
 use Rattle.definition.specs.Calls.{ran, stopped, turns}
-use Rattle.text.proofs.Steps.{front, ended, peek-read}
+use Rattle.text.proofs.Steps.{front, ended}
 
 module _ {S : Type 0} (f : Text → S → Out S Text) (body : Text) where
   -- the body has ended
@@ -48,7 +47,3 @@ inner (refused r) g h = refl
 pub regroup : {S A B D : Type 0} (o : Out S A) (f : A → Step S B) (g : Step S Done) (h : Step S D) → and-then (and-then o (λ a s. and-then (f a s) (λ x. g))) (λ x. h) ≡ and-then (and-then o f) (λ x s. and-then (g s) (λ y. h))
 regroup (ok a s) f g h = inner (f a s) g h
 regroup (refused r) f g h = refl
-
--- whether a digit stands at a place
-pub digit-here : (text : Text) (at : ℕ) {r b : Bool} → at < length text → r ≡ peek digit (drop at text) → r ≡ b → digit (getD text at 0) ≡ b
-digit-here text at h p q = sym (peek-read text at digit h) ∙ (sym p ∙ q)

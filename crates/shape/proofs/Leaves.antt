@@ -2,7 +2,7 @@
 use mathlib.Core.Path.{_≡_, refl, sym, ap, subst, _∙_}
 use mathlib.Core.Bool.{Bool, true, false, _&&_}
 use mathlib.Core.List.{List, [], _∷_}
-use Prim.Native.Nat.{ℕ, zero, suc, _+_, _*_, _-_, _≤_, _<_}
+use Prim.Native.Nat.{ℕ, zero, suc, _+_, _*_, _≤_, _<_}
 use Prim.Native.String.{String}
 use native.Mathlib.Omega.{arith}
 use native.Mathlib.Nat.{not-suc-le-zero, le-of-suc-le-suc}
@@ -156,9 +156,6 @@ pub puts-after : {f : Check Done} {N : ℕ} {w w₁ : List ℕ} {st u : State} �
 puts-after {st = st} {u = u} r h =
     let t : u .budget .total ≡ st .budget .total = ap (λ (b : Budget). b .total) (h .budget) in
     record { long = omega (arith, r .long, h .wrote .outside .long); ceiling = r .ceiling; total = omega (arith, r .total, t); deep = omega (arith, r .deep, t, h .depth) }
-
-pub roomy-puts : {N : ℕ} {w : List ℕ} {st : State} → Roomy N w st → Puts N w st
-roomy-puts r = record { long = r .long; ceiling = r .ceiling; total = r .total; deep = r .deep }
 
 -- ROWS
 module _ (N : ℕ) (fixed : ℕ → String) (op : Operator) {row : ℕ} (q : row ≡ row-of op) where

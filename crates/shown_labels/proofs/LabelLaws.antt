@@ -3,7 +3,7 @@ use mathlib.Core.Path.{_≡_, refl, sym, ap, subst, _∙_}
 use mathlib.Core.Bool.{true, false}
 use mathlib.Core.List.{List, [], _∷_, _++_, append-assoc}
 use mathlib.Core.Option.{Option, some, none}
-use Prim.Native.Nat.{ℕ, zero, suc, _+_, _-_, _<_}
+use Prim.Native.Nat.{ℕ, zero, suc, _-_, _<_}
 use native.Mathlib.Omega.{arith}
 use lib.ListN.{length, drop}
 use lib.Seq.{drop-nil}
@@ -114,9 +114,6 @@ module _ (nm : Names) (ws : List ℕ) (own : ℕ) (l : Labels) where
   first-label-of z e h = let o = open-labels (h .are) z in first-name (o .first) (o .first-is) e (first-text h o)
 
   module _ {room at₀ r : ℕ} {o o' : List ℕ} where
-    pub label-first : (l .left ≡ 0 → ⊥) → (first-number ≡ absent → ⊥) → Puts (NamedLabel nm first-number) room o o' at₀ r → Puts (Labelling nm ws own l) room o o' at₀ r
-    label-first z e a = record { next = a .next; len = a .len; each = λ s h. a .each s (first-label-of z e h) }
-
     pub label-marker : {o₁ : List ℕ} {m : ℕ} → (l .left ≡ 0 → ⊥) → first-number ≡ absent → Wrote room o o₁ at₀ (text-of 33) m → Wrote room o₁ o' m (text-of 1) r → Puts (Labelling nm ws own l) room o o' at₀ r
     unfolding prefix text-of X.texts bytes
     label-marker z e a b = record {
@@ -166,10 +163,6 @@ pub prefixed : (l : Option Name) (t : Name) → prefix l ++ t ≡ labelled l t
 unfolding prefix labelled
 prefixed none t = refl
 prefixed (some n) t = append-assoc n (bytes ": ") t
-
--- not to show a label is to have none
-pub own-shown : (ls : List (Option Name)) (x : Option Name) → label-now ls (own false x) ≡ label-now ls none
-own-shown ls x = refl
 
 -- none of their own
 pub none-in : {nm : Names} {ws : List ℕ} (p : ℕ) → LabelsIn nm ws [] (none-at p)

@@ -1,12 +1,12 @@
 -- A name that is spelled again from its place in the text (01, "Words"), and what the functions of this crate say of it. Assumes nothing.
-use mathlib.Core.Path.{_≡_, refl, subst⁻¹}
+use mathlib.Core.Path.{_≡_}
 use mathlib.Core.List.{List}
 use Prim.Native.Nat.{ℕ, _^_, _<_}
 use lib.ListN.{length, drop}
 use Rattle.definition.specs.Base.{Name, ok}
 use Rattle.definition.specs.Text.{Text}
 use Rattle.definition.specs.Words as W
-use Rattle.definition.proofs.WordsAdded.{Begins, Looked, begins-refl, begins-trans}
+use Rattle.definition.proofs.WordsAdded.{Looked}
 use Rattle.words.specs.Table.{table}
 use Rattle.words.specs.declared.Words.{Words}
 use Rattle.output.specs.Sink.{Room, Wrote}
@@ -20,14 +20,6 @@ pub record Spells (text : Text) (w : Words) (p : ℕ) (name : Name) : Type 0 whe
   pub is : W.identifier words (drop p text) ≡ ok read rest
   pub later : Looked (drop p text) (read .words) (table text w)
   pub named : read .name ≡ name
-
--- a table that has grown spells what it spelled before
-pub spells-later : {text : Text} {w v : Words} {p : ℕ} {name : Name} → Begins (table text w) (table text v) → Spells text w p name → Spells text v p name
-spells-later b h = record { words = h .words; read = h .read; rest = h .rest; is = h .is; later = λ z. begins-trans (h .later z) b; named = h .named }
-
--- an identifier that was read just now
-pub spells-read : {text : Text} {w : Words} {p : ℕ} (words : List Name) (read : W.Identified) (rest : Text) → W.identifier words (drop p text) ≡ ok read rest → table text w ≡ read .words → Spells text w p (read .name)
-spells-read {text} {w} words read rest e k = record { words = words; read = read; rest = rest; is = e; later = λ z. subst⁻¹ (Begins (read .words)) k (begins-refl (read .words)); named = refl }
 
 -- THE PUBLIC CONTRACTS
 -- r is the length of the name

@@ -99,10 +99,6 @@ letters-from zero repeat done t = ap (λ x. ok (substitutions x (bad 9)) t) (sym
 letters-from (suc f) repeat done [] = ap (λ x. ok (substitutions x (bad 9)) []) (sym (append-nil done))
 letters-from (suc f) repeat done (c ∷ t) = by-item f repeat done c t (letters-from f) (lower c) (upper c) (is "_" c) (natural (c ∷ t))
 
--- any fuel that is enough gives the same letters
-pub letters-are : (f : ℕ) (done : List Substitution) (t : Text) → length t ≤ f → substitutions-from f none done t ≡ outcome-after done (chain t)
-letters-are f done t h = letters-from f none done t ∙ ap (outcome-after done) (chain-fuel f (length t) none t h (le-refl _))
-
 -- the chain is the definition's
 pub letters-chain : (t : Text) → substitutions-letters t ≡ outcome (chain t)
 unfolding substitutions-letters

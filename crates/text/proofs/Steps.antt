@@ -11,13 +11,10 @@ use lib.ListN.{length, getD, drop, drop-of-length-le}
 use lib.Seq.{drop-cons}
 use Rattle.definition.specs.Base.{Out, ok, refused, is, digit, and-then}
 use Rattle.definition.specs.Text.{Text, Param, param, peek, next, next-if, digits, natural, checked, index, index-plus-one, depth-and-index, generic-param-index}
-use Rattle.text.specs.Cursor.{Stands, StandsParam, Counted, Byted, Numbered, Parameter, close-index, index-at}
+use Rattle.text.specs.Cursor.{Stands, Counted, Numbered, Parameter, close-index, index-at}
 use Rattle.definition.specs.Enums.{number}
 use Rattle.definition.specs.declared.Refusal.{Refusal}
-use Rattle.definition.specs.declared.Param as Code
 use Rattle.text.specs.declared.Cursor.{Cursor}
-use Rattle.text.specs.declared.Byte.{Byte}
-use Rattle.text.specs.declared.Byte.the-variants as Byte
 use Rattle.text.specs.declared.Number.{Number}
 use Rattle.text.specs.declared.Number.the-variants as Number
 use Rattle.text.specs.declared.ParamRead.{ParamRead}
@@ -148,18 +145,6 @@ number-read text from {o} e h = subst (Numbered o text from) e h
 
 pub number-refused : (text : Text) (from : ℕ) {o : Out Text ℕ} {r : Number} {f : Refusal} → r ≡ Number.Refused f → Numbered o text from r → o ≡ refused (number f)
 number-refused text from {o} e h = subst (Numbered o text from) e h
-
-pub byte-read : (text : Text) (from : ℕ) {o : Out Text ℕ} {r : Byte} {b : ℕ} {c : Cursor} → r ≡ Byte.Read b c → Byted o text from r → Stands o b 256 text (from + 1) c
-byte-read text from {o} e h = subst (Byted o text from) e h
-
-pub byte-refused : (text : Text) (from : ℕ) {o : Out Text ℕ} {r : Byte} {f : Refusal} → r ≡ Byte.Refused f → Byted o text from r → o ≡ refused (number f)
-byte-refused text from {o} e h = subst (Byted o text from) e h
-
-pub param-read : (text : Text) (from : ℕ) {o : Out Text Param} {r : ParamRead} {p : Code.Param} {c : Cursor} → r ≡ ParamRead.Read p c → Parameter o text from r → StandsParam o p text (from + 1) c
-param-read text from {o} e h = subst (Parameter o text from) e h
-
-pub param-refused : (text : Text) (from : ℕ) {o : Out Text Param} {r : ParamRead} {f : Refusal} → r ≡ ParamRead.Refused f → Parameter o text from r → o ≡ refused (number f)
-param-refused text from {o} e h = subst (Parameter o text from) e h
 
 pub taken-is : {o : Out Text Bool} {u : Text} {b d : Bool} → o ≡ ok b u → b ≡ d → o ≡ ok d u
 taken-is {u = u} e k = e ∙ ap (λ (x : Bool). ok x u) k

@@ -51,18 +51,6 @@ module _ (word : Name) where
   keep-adds ws h k = rw (keep, le-leb 2 (length word) h, lt-ltb (length ws) 26 k)
 
 module _ (n : ℕ) where
-  pub count-short : (ws : ℕ) → n < 2 → keep-count n ws ≡ ws
-  unfolding keep-count
-  count-short ws h = rw (keep-count, lt-leb 2 n h)
-
-  pub count-full : (ws : ℕ) → 26 ≤ ws → keep-count n ws ≡ ws
-  unfolding keep-count
-  count-full ws h = rw (keep-count, le-ltb ws 26 h, and-false (leb 2 n))
-
-  pub count-adds : (ws : ℕ) → 2 ≤ n → ws < 26 → keep-count n ws ≡ suc ws
-  unfolding keep-count
-  count-adds ws h k = rw (keep-count, le-leb 2 n h, lt-ltb ws 26 k)
-
   -- by both tests at once
   pub count-kept : (ws : ℕ) → (leb 2 n && ltb ws 26) ≡ true → keep-count n ws ≡ suc ws
   unfolding keep-count
