@@ -5,134 +5,50 @@ use Rattle.fixed_names.proofs.Arms.{place-here}
 use Rattle.fixed_names.proofs.place_128.Statement.{statement}
 use Rattle.fixed_names.proofs.place_128.Tie as tie
 
-returns : tie.Need-returns
-returns c = place-here (c .match .keys1)
-
-returns-2 : tie.Need-returns-2
-returns-2 c = place-here (c .match .keys2)
-
-returns-3 : tie.Need-returns-3
-returns-3 c = place-here (c .match .keys3)
-
-returns-4 : tie.Need-returns-4
-returns-4 c = place-here (c .match .keys4)
-
-returns-5 : tie.Need-returns-5
-returns-5 c = place-here (c .match .keys5)
-
-returns-6 : tie.Need-returns-6
-returns-6 c = place-here (c .match .keys6)
-
-returns-7 : tie.Need-returns-7
-returns-7 c = place-here (c .match .keys7)
-
-returns-8 : tie.Need-returns-8
-returns-8 c = place-here (c .match .keys8)
-
-returns-9 : tie.Need-returns-9
-returns-9 c = place-here (c .match .keys9)
-
-returns-10 : tie.Need-returns-10
-returns-10 c = place-here (c .match .keys10)
-
-returns-11 : tie.Need-returns-11
-returns-11 c = place-here (c .match .keys11)
-
-returns-12 : tie.Need-returns-12
-returns-12 c = place-here (c .match .keys12)
-
-returns-13 : tie.Need-returns-13
-returns-13 c = place-here (c .match .keys13)
-
-returns-14 : tie.Need-returns-14
-returns-14 c = place-here (c .match .keys14)
-
-returns-15 : tie.Need-returns-15
-returns-15 c = place-here (c .match .keys15)
-
-returns-16 : tie.Need-returns-16
-returns-16 c = place-here (c .match .keys16)
-
-returns-17 : tie.Need-returns-17
-returns-17 c = place-here (c .match .keys17)
-
-returns-18 : tie.Need-returns-18
-returns-18 c = place-here (c .match .keys18)
-
-returns-19 : tie.Need-returns-19
-returns-19 c = place-here (c .match .keys19)
-
-returns-20 : tie.Need-returns-20
-returns-20 c = place-here (c .match .keys20)
-
-returns-21 : tie.Need-returns-21
-returns-21 c = place-here (c .match .keys21)
-
-returns-22 : tie.Need-returns-22
-returns-22 c = place-here (c .match .keys22)
-
-returns-23 : tie.Need-returns-23
-returns-23 c = place-here (c .match .keys23)
-
-returns-24 : tie.Need-returns-24
-returns-24 c = place-here (c .match .keys24)
-
-returns-25 : tie.Need-returns-25
-returns-25 c = place-here (c .match .keys25)
-
-returns-26 : tie.Need-returns-26
-returns-26 c = place-here (c .match .keys26)
-
-returns-27 : tie.Need-returns-27
-returns-27 c = place-here (c .match .keys27)
-
-returns-28 : tie.Need-returns-28
-returns-28 c = place-here (c .match .keys28)
-
-returns-29 : tie.Need-returns-29
-returns-29 c = place-here (c .match .keys29)
-
-returns-30 : tie.Need-returns-30
-returns-30 c = place-here (c .match .keys30)
-
-returns-31 : tie.Need-returns-31
-returns-31 c = place-here (c .match .keys31)
-
-returns-32 : tie.Need-returns-32
-returns-32 c = place-here (c .match .keys32)
-
-returns-33 : tie.Need-returns-33
-returns-33 c = place-here (c .match .keys33)
-
-returns-34 : tie.Need-returns-34
-returns-34 c = place-here (c .match .keys34)
-
-returns-35 : tie.Need-returns-35
-returns-35 c = place-here (c .match .keys35)
-
-returns-36 : tie.Need-returns-36
-returns-36 c = place-here (c .match .keys36)
-
-returns-37 : tie.Need-returns-37
-returns-37 c = place-here (c .match .keys37)
-
-returns-38 : tie.Need-returns-38
-returns-38 c = place-here (c .match .keys38)
-
-returns-39 : tie.Need-returns-39
-returns-39 c = place-here (c .match .keys39)
-
-returns-40 : tie.Need-returns-40
-returns-40 c = place-here (c .match .keys40)
-
-returns-41 : tie.Need-returns-41
-returns-41 c = place-here (c .match .keys41)
-
-returns-42 : tie.Need-returns-42
-returns-42 c = place-here (c .match .keys42)
-
-returns-43 : tie.Need-returns-43
-returns-43 c = place-here (the-last (c .before .args .n) 128 42 (c .before .pre .0) (omega (arith, c .before .pre .1)) (c .match .rest))
-
 pub place-128-spec : {M : Type 1} → statement M
-place-128-spec = tie.close (tie.spec returns returns-2 returns-3 returns-4 returns-5 returns-6 returns-7 returns-8 returns-9 returns-10 returns-11 returns-12 returns-13 returns-14 returns-15 returns-16 returns-17 returns-18 returns-19 returns-20 returns-21 returns-22 returns-23 returns-24 returns-25 returns-26 returns-27 returns-28 returns-29 returns-30 returns-31 returns-32 returns-33 returns-34 returns-35 returns-36 returns-37 returns-38 returns-39 returns-40 returns-41 returns-42 returns-43)
+place-128-spec =
+    tie.close
+    (tie.spec
+    (λ c. place-here (c .match .keys1))
+    (λ c. place-here (c .match .keys2))
+    (λ c. place-here (c .match .keys3))
+    (λ c. place-here (c .match .keys4))
+    (λ c. place-here (c .match .keys5))
+    (λ c. place-here (c .match .keys6))
+    (λ c. place-here (c .match .keys7))
+    (λ c. place-here (c .match .keys8))
+    (λ c. place-here (c .match .keys9))
+    (λ c. place-here (c .match .keys10))
+    (λ c. place-here (c .match .keys11))
+    (λ c. place-here (c .match .keys12))
+    (λ c. place-here (c .match .keys13))
+    (λ c. place-here (c .match .keys14))
+    (λ c. place-here (c .match .keys15))
+    (λ c. place-here (c .match .keys16))
+    (λ c. place-here (c .match .keys17))
+    (λ c. place-here (c .match .keys18))
+    (λ c. place-here (c .match .keys19))
+    (λ c. place-here (c .match .keys20))
+    (λ c. place-here (c .match .keys21))
+    (λ c. place-here (c .match .keys22))
+    (λ c. place-here (c .match .keys23))
+    (λ c. place-here (c .match .keys24))
+    (λ c. place-here (c .match .keys25))
+    (λ c. place-here (c .match .keys26))
+    (λ c. place-here (c .match .keys27))
+    (λ c. place-here (c .match .keys28))
+    (λ c. place-here (c .match .keys29))
+    (λ c. place-here (c .match .keys30))
+    (λ c. place-here (c .match .keys31))
+    (λ c. place-here (c .match .keys32))
+    (λ c. place-here (c .match .keys33))
+    (λ c. place-here (c .match .keys34))
+    (λ c. place-here (c .match .keys35))
+    (λ c. place-here (c .match .keys36))
+    (λ c. place-here (c .match .keys37))
+    (λ c. place-here (c .match .keys38))
+    (λ c. place-here (c .match .keys39))
+    (λ c. place-here (c .match .keys40))
+    (λ c. place-here (c .match .keys41))
+    (λ c. place-here (c .match .keys42))
+    (λ c. place-here (the-last (c .before .args .n) 128 42 (c .before .pre .0) (omega (arith, c .before .pre .1)) (c .match .rest))))
