@@ -19,6 +19,7 @@ use Rattle.definition.specs.declared.Answer.{Answer}
 use Rattle.definition.proofs.SameText.{passed, both, same-refl}
 use Rattle.definition.proofs.JudgingAlike.{judging-alike}
 use Rattle.endings.specs.Answers.{Answers}
+use Rattle.budget.specs.Beyond.{beyond-itself, beyond-both}
 use Rattle.endings.specs.Calls.{early, Scratch}
 use Rattle.endings.proofs.Runs.{Plain}
 use Rattle.endings.proofs.Users.{Wrote, wrote, symbol-read-plain, type-read-plain, symbol-shape-plain, type-shape-plain, symbol-read-k-plain, type-read-k-plain, symbol-check-k-plain, type-check-k-plain}
@@ -206,12 +207,11 @@ judged-true t N k w w′ out s s′ h h′ e =
 
 -- a workspace that goes from call to call
 lent-first : {need N : ℕ} {w : List ℕ} → Lent need N [] w w
-lent-first = record { long = refl; past = λ i h. refl; untouched = λ h. refl }
+lent-first = record { beyond = beyond-itself _ _; untouched = λ h. refl }
 
 lent-then : {need N : ℕ} {more : List Calls.Answer} {w w₁ w₂ : List ℕ} (a : Calls.Answer) → Scratch need N (a .values .number) w w₁ → Lent need N more w₁ w₂ → Lent need N (a ∷ more) w w₂
 lent-then {more = more} a h k = record {
-  long = k .long ∙ h .long;
-  past = λ i q. k .past i q ∙ h .past i q;
+  beyond = beyond-both (h .beyond) (k .beyond);
   untouched = λ q. let p = both (early (a .values .number)) (all-early more) q in k .untouched (p .1) ∙ h .untouched (p .0);
 }
 
@@ -224,12 +224,12 @@ module _ (t : Text) (N k : ℕ) {w w₁ w₂ w₃ w₄ v v₁ v₂ v₃ v₄ out
       length out₁ ≡ length out → length s₁ ≡ length s → length z₁ ≡ length z →
       Judges t N k (slices w v out s z) (slices w₄ v₄ out₂ s₂ z₂) (r₁ && r₂ && r₃ && r₄)
   judges a b₀ c₀ d₀ eo es ez =
-      let ew₁ = a .reading-workspace .long in
-      let ev₁ = a .check-workspace .long in
-      let ew₂ = b₀ .reading-workspace .long ∙ ew₁ in
-      let ev₂ = b₀ .check-workspace .long ∙ ev₁ in
-      let ew₃ = c₀ .reading-workspace .long ∙ ew₂ in
-      let ev₃ = c₀ .check-workspace .long ∙ ev₂ in
+      let ew₁ = a .reading-workspace .beyond .long in
+      let ev₁ = a .check-workspace .beyond .long in
+      let ew₂ = b₀ .reading-workspace .beyond .long ∙ ew₁ in
+      let ev₂ = b₀ .check-workspace .beyond .long ∙ ev₁ in
+      let ew₃ = c₀ .reading-workspace .beyond .long ∙ ew₂ in
+      let ev₃ = c₀ .check-workspace .beyond .long ∙ ev₂ in
       let b = rw (ew₁, ev₁, eo) at b₀ in
       let c = rw (ew₂, ev₂) at c₀ in
       let d = rw (ew₃, ev₃, es, ez) at d₀ in

@@ -2,15 +2,16 @@
 use mathlib.Core.Path.{_≡_}
 use mathlib.Core.Bool.{Bool, true, _&&_}
 use mathlib.Core.List.{List, [], _∷_, _++_}
-use Prim.Native.Nat.{ℕ, _*_, _≤_}
+use Prim.Native.Nat.{ℕ}
 use lib.Dec.{T}
-use lib.ListN.{length, drop, getD}
+use lib.ListN.{length, drop}
 use Rattle.definition.specs.Text.{Text}
 use Rattle.definition.specs.Calls as Calls
 use Rattle.definition.specs.Calls.{reading-needs, check-needs}
 use Rattle.definition.specs.Reading.{demangle, demangle-type, demangle-stopped, demangle-type-stopped}
 use Rattle.definition.specs.Check.{shape, shape-type, shape-stopped, shape-type-stopped}
 use Rattle.definition.specs.Alike.{enough}
+use Rattle.budget.specs.Beyond.{Beyond}
 use Rattle.endings.specs.Calls.{early, Scratch}
 use Rattle.agreement.specs.Agreement.{whole-agree, same-answer, judged}
 
@@ -45,8 +46,7 @@ all-early (a ∷ more) = early (a .values .number) && all-early more
 -- the workspace of calls made one after another, which answer so: scratch up to need × N numbers;
 -- past them it is as it was, and wholly so where 1 to 5 refuse each call
 pub record Lent (need N : ℕ) (answers : List Calls.Answer) (w w′ : List ℕ) : Type 0 where
-  pub long : length w′ ≡ length w
-  pub past : (i : ℕ) → need * N ≤ i → getD w′ i 0 ≡ getD w i 0
+  pub beyond : Beyond need N w w′
   pub untouched : T (all-early answers) → w′ ≡ w
 
 -- the slices that `judged_alike` is lent

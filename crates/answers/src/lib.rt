@@ -7,7 +7,7 @@ ghost use Rattle.definition.specs.Calls as Calls;
 ghost use Rattle.definition.specs.Reading as Reading;
 ghost use Rattle.definition.specs.Text as Text;
 ghost use Rattle.endings.specs.Answers.{Answers};
-ghost use Rattle.nodes.specs.Gives.{Beyond};
+ghost use Rattle.budget.specs.Beyond.{Beyond};
 ghost use Rattle.runs.specs.Ends.{kinds-of};
 ghost use Rattle.symbols.specs.Symbol as Symbols;
 ghost use Rattle.answers.specs.Answers.{Held, Finishes};
@@ -61,7 +61,7 @@ pub fn read_body(
     out: &mut [u8],
 ) -> Answer
     requires { ⌜ (start ≤ end) × (end ≤ length (now text)) × (length (now text) ≤ 65535) × (ceiling ≤ 65536) × (64 * ceiling ≤ length (now workspace)) × (Text.well-formed (take (end - start) (drop start (now text))) ≡ true) ⌝ }
-    ensures { λ r. ⌜ Answers (Calls.within (length (now (out .entry))) (Reading.whole ceiling (kinds-of what) (Symbols.symbol (now (text .entry)) start end))) (now (out .entry)) (now (out .exit)) r × Beyond (now (workspace .entry)) (now (workspace .exit)) ceiling ⌝ }
+    ensures { λ r. ⌜ Answers (Calls.within (length (now (out .entry))) (Reading.whole ceiling (kinds-of what) (Symbols.symbol (now (text .entry)) start end))) (now (out .entry)) (now (out .exit)) r × Beyond 64 ceiling (now (workspace .entry)) (now (workspace .exit)) ⌝ }
 {
     let body = &text[start..end];
     let reached = reading::run(body, Budget::ALL_TURNS, workspace, ceiling);
@@ -87,7 +87,7 @@ pub fn read_stopped_body(
     out: &mut [u32],
 ) -> Answer
     requires { ⌜ (start ≤ end) × (end ≤ length (now text)) × (length (now text) ≤ 65535) × (ceiling ≤ 65536) × (64 * ceiling ≤ length (now workspace)) × (Text.well-formed (take (end - start) (drop start (now text))) ≡ true) ⌝ }
-    ensures { λ r. ⌜ Answers (Calls.within (length (now (out .entry))) (Reading.stopped-after ceiling k (Symbols.symbol (now (text .entry)) start end))) (now (out .entry)) (now (out .exit)) r × Beyond (now (workspace .entry)) (now (workspace .exit)) ceiling ⌝ }
+    ensures { λ r. ⌜ Answers (Calls.within (length (now (out .entry))) (Reading.stopped-after ceiling k (Symbols.symbol (now (text .entry)) start end))) (now (out .entry)) (now (out .exit)) r × Beyond 64 ceiling (now (workspace .entry)) (now (workspace .exit)) ⌝ }
 {
     let reached = reading::run(&text[start..end], k, workspace, ceiling);
     let ended = reached.end;

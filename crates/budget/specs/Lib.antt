@@ -1,1 +1,2 @@
 pub mod Spent
+pub mod Beyond

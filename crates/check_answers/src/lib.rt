@@ -9,7 +9,7 @@ ghost use Rattle.definition.specs.Enums as Enums;
 ghost use Rattle.definition.specs.Text as Text;
 ghost use Rattle.endings.specs.Answers.{Answers};
 ghost use Rattle.runs.specs.Ends.{kinds-of};
-ghost use Rattle.stores.specs.Stores.{Outside};
+ghost use Rattle.budget.specs.Beyond.{Beyond};
 ghost use Rattle.symbols.specs.Symbol as Symbols;
 use budget::Budget;
 use checking::Ended;
@@ -29,7 +29,7 @@ pub fn check_body(
     workspace: &mut [u32],
 ) -> Answer
     requires { ⌜ (start ≤ end) × (end ≤ length (now text)) × (length (now text) ≤ 65535) × (ceiling ≤ 65536) × (8 * ceiling ≤ length (now workspace)) × (Text.well-formed (take (end - start) (drop start (now text))) ≡ true) ⌝ }
-    ensures { λ r. ⌜ (Enums.values r ≡ Check.whole ceiling (kinds-of what) (Symbols.symbol (now (text .entry)) start end) .values) × Outside ceiling (now (workspace .entry)) (now (workspace .exit)) ⌝ }
+    ensures { λ r. ⌜ (Enums.values r ≡ Check.whole ceiling (kinds-of what) (Symbols.symbol (now (text .entry)) start end) .values) × Beyond 8 ceiling (now (workspace .entry)) (now (workspace .exit)) ⌝ }
 {
     match checking::run(&text[start..end], Budget::ALL_TURNS, workspace, ceiling) {
         Ended::Ran(st) => {
@@ -54,7 +54,7 @@ pub fn check_stopped_body(
     out: &mut [u32],
 ) -> Answer
     requires { ⌜ (start ≤ end) × (end ≤ length (now text)) × (length (now text) ≤ 65535) × (ceiling ≤ 65536) × (8 * ceiling ≤ length (now workspace)) × (Text.well-formed (take (end - start) (drop start (now text))) ≡ true) ⌝ }
-    ensures { λ r. ⌜ Answers (Calls.within (length (now (out .entry))) (Check.stopped-after ceiling k (Symbols.symbol (now (text .entry)) start end))) (now (out .entry)) (now (out .exit)) r × Outside ceiling (now (workspace .entry)) (now (workspace .exit)) ⌝ }
+    ensures { λ r. ⌜ Answers (Calls.within (length (now (out .entry))) (Check.stopped-after ceiling k (Symbols.symbol (now (text .entry)) start end))) (now (out .entry)) (now (out .exit)) r × Beyond 8 ceiling (now (workspace .entry)) (now (workspace .exit)) ⌝ }
 {
     match checking::run(&text[start..end], k, workspace, ceiling) {
         Ended::Ran(st) => {

@@ -16,7 +16,7 @@ use Rattle.stores.specs.Stores.{Wrote, Failed, Performing}
 use Rattle.shape.specs.Performs.{Sound}
 use Rattle.stores.specs.declared.Step.{Step}
 use Rattle.stores.specs.declared.Step.the-variants as Step
-use Rattle.stores.proofs.Stores.{outside-none}
+use Rattle.budget.specs.Beyond.{beyond-itself}
 use Rattle.check_turns.specs.Turns.{Reaches, Refuses, Turning, Performed}
 use Rattle.check_turns.specs.declared.Turned.{Turned}
 use Rattle.check_turns.specs.declared.Turned.the-variants as Turned
@@ -40,7 +40,7 @@ module _ {A : Type 0} {out : Out Text A} (f : A → Check Done) (N : ℕ) (w : L
 
   pub not-read : {r : Refusal} → out ≡ refused (number r) → Refuses (then-run out f) N w w st r
   unfolding then-run
-  not-read q = record { is = ap (λ (x : Out Text A). then-run x f (machine-of w N st)) q; outside = outside-none }
+  not-read q = record { is = ap (λ (x : Out Text A). then-run x f (machine-of w N st)) q; outside = beyond-itself _ _ }
 
   -- the cursor was passed on
   pub then-performed : (text : Text) (w₁ : List ℕ) {a : A} {next : Cursor} → out ≡ ok a (drop (next .at) text) → next .at ≤ length text → (r : Turned) → Performed (f a) N w w₁ st next r → Turning (then-run out f) N text w w₁ st r

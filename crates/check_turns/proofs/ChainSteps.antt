@@ -22,9 +22,9 @@ use Rattle.substitutions.specs.Chain.{Chain, ended, more, chain, outcome, Same,
 use Rattle.substitutions.specs.declared.SubstitutionRead.{SubstitutionRead}
 use Rattle.substitutions.specs.declared.SubstitutionRead.the-variants as SubstitutionRead
 use Rattle.runs.proofs.Turns.{regroup}
-use Rattle.stores.specs.Stores.{Outside, Wrote, Failed}
+use Rattle.budget.specs.Beyond.{Beyond, beyond-itself, beyond-both}
+use Rattle.stores.specs.Stores.{Wrote, Failed}
 use Rattle.shape.specs.Performs.{Sound, recall-copies}
-use Rattle.stores.proofs.Stores.{outside-both, outside-none}
 use Rattle.shape.proofs.Leaves.{sound-seen}
 use Rattle.shape.proofs.Recalls.{not-recalled}
 use Rattle.shape.proofs.Sounds.{sound-recall}
@@ -79,26 +79,26 @@ module _ {N : ℕ} {w : List ℕ} {st : State} (s : Sound 0 N w st) where
     item-fails t i true c g h = record { is = ends-is g (h .is); outside = h .outside }
 
     pub item-broken : {r : Refusal} → Breaks (chain (drop at text)) (number r) → Refuses (chained N text at) N w w st r
-    item-broken {r} b = record { is = ap (λ (ch : Chain). performs N (outcome ch) (machine-of w N st)) (b .is) ∙ performs-bad N (machine-of w N st) (number r) (b .rest); outside = outside-none }
+    item-broken {r} b = record { is = ap (λ (ch : Chain). performs N (outcome ch) (machine-of w N st)) (b .is) ∙ performs-bad N (machine-of w N st) (number r) (b .rest); outside = beyond-itself _ _ }
 
 -- ALL ITEMS: what is left to do from here comes to what the whole does
 pub record Chaining (N : ℕ) (text : Text) (from at : ℕ) (w w₁ : List ℕ) (st u : State) : Type 0 where
   pub is : chained N text from (machine-of w N st) ≡ chained N text at (machine-of w₁ N u)
   pub sound : Sound 0 N w₁ u
-  pub outside : Outside N w w₁
+  pub outside : Beyond 8 N w w₁
 
 pub chain-first : {N : ℕ} {w : List ℕ} {st : State} (text : Text) (from : ℕ) → Sound 0 N w st → Chaining N text from from w w st st
-chain-first text from s = record { is = refl; sound = s; outside = outside-none }
+chain-first text from s = record { is = refl; sound = s; outside = beyond-itself _ _ }
 
 module _ {N : ℕ} {text : Text} {from at : ℕ} {w w₁ w₂ : List ℕ} {st u : State} (h : Chaining N text from at w w₁ st u) where
   pub chain-more : {v : State} {c : Cursor} → Goes N text at w₁ w₂ u v c → Chaining N text from (c .at) w w₂ st v
-  chain-more g = record { is = h .is ∙ g .is; sound = g .sound; outside = outside-both (h .outside) (g .outside) }
+  chain-more g = record { is = h .is ∙ g .is; sound = g .sound; outside = beyond-both (h .outside) (g .outside) }
 
   pub chain-last : {v : State} {c : Cursor} → Reaches (chained N text at) N text w₁ w₂ u v c → Reaches (chained N text from) N text w w₂ st v c
-  chain-last g = record { is = h .is ∙ g .is; inside = g .inside; sound = g .sound; outside = outside-both (h .outside) (g .outside) }
+  chain-last g = record { is = h .is ∙ g .is; inside = g .inside; sound = g .sound; outside = beyond-both (h .outside) (g .outside) }
 
   pub chain-refused : {r : Refusal} → Refuses (chained N text at) N w₁ w₂ u r → Refuses (chained N text from) N w w₂ st r
-  chain-refused g = record { is = h .is ∙ g .is; outside = outside-both (h .outside) (g .outside) }
+  chain-refused g = record { is = h .is ∙ g .is; outside = beyond-both (h .outside) (g .outside) }
 
 -- AFTER A MATCH
 module _ (N : ℕ) (text : Text) (at : ℕ) (w w₁ : List ℕ) (st : State) {r : Letter} where

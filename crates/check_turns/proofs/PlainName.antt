@@ -22,7 +22,7 @@ use Rattle.identifiers.specs.Answers.{Lies}
 use Rattle.identifiers.proofs.OneLiteral.{one-counted, one-not-counted}
 use Rattle.words.specs.Table.{part}
 use Rattle.stores.specs.Stores.{Wrote}
-use Rattle.stores.proofs.Stores.{outside-none}
+use Rattle.budget.specs.Beyond.{beyond-itself}
 use Rattle.shape.specs.Performs.{Sound}
 use Rattle.shape.proofs.Sounds.{sound-name}
 use Rattle.check_turns.specs.Turns.{with-words, Charged, PlainReaches, PlainRefuses}
@@ -46,7 +46,7 @@ module _ (N : ℕ) (w : List ℕ) (u : State) where
 
 module _ (N : ℕ) (text : Text) (at : ℕ) (w : List ℕ) (st : State) where
   pub plain-not-begun : (r : Refusal) → (B.step >> B.charge N 1) (budget-of (st .budget)) ≡ refused (number r) → PlainRefuses N text at w w st r
-  plain-not-begun r q = record { is = λ v. turn-refused N w st r q v (drop at text); outside = outside-none }
+  plain-not-begun r q = record { is = λ v. turn-refused N w st r q v (drop at text); outside = beyond-itself _ _ }
 
   module _ (h : at < length text) (e : digit (getD text at 0) ≡ true) (z : is "0" (getD text at 0) ≡ false) {u : State} (a : Charged N st u) where
     turn-name : (v : ℕ) → turn N (Ch.one N) (drop at text) (machine-of w N (with-words v st)) ≡ then-run (Ch.identifier v (drop at text)) (λ x. Ch.name N (x .words)) (machine-of w N (with-words v u))
@@ -71,5 +71,5 @@ module _ (N : ℕ) (text : Text) (at : ℕ) (w : List ℕ) (st : State) where
     unfolding then-run
     plain-unread f q = record {
       is = λ v. turn-name v ∙ ap (λ (o : Out Text Ch.Identified). then-run o (λ y. Ch.name N (y .words)) (machine-of w N (with-words v u))) (one-not-counted text at h z v q);
-      outside = outside-none;
+      outside = beyond-itself _ _;
     }

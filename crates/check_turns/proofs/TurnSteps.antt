@@ -21,7 +21,7 @@ use Rattle.entries.specs.Lies.{machine-of}
 use Rattle.entries.specs.declared.State.{State}
 use Rattle.runs.proofs.Turns.{inner}
 use Rattle.shape.specs.Performs.{Sound}
-use Rattle.stores.proofs.Stores.{outside-none}
+use Rattle.budget.specs.Beyond.{beyond-itself}
 use Rattle.check_turns.specs.Turns.{Refuses, Turning, with-budget, with-words, Charged, Begins}
 use Rattle.check_turns.specs.declared.Begun.{Begun}
 use Rattle.check_turns.specs.declared.Begun.the-variants as Begun
@@ -84,7 +84,7 @@ module _ (N : ℕ) where
     turn-refused r q v t = turn-is t (machine-of w N (with-words v st)) ∙ ap (λ (o : Out B.Budget Done). and-then (spent o (machine-of w N (with-words v st))) (λ x. Ch.one N t)) q
 
     pub turn-not : (r : Refusal) → (B.step >> B.charge N 1) (budget-of (st .budget)) ≡ refused (number r) → (t : Text) → Refuses (turn N (Ch.one N) t) N w w st r
-    turn-not r q t = record { is = turn-refused r q (st .words) t; outside = outside-none }
+    turn-not r q t = record { is = turn-refused r q (st .words) t; outside = beyond-itself _ _ }
 
     module _ {u : State} (a : Charged N st u) where
       charged-machine : (v : ℕ) → spent ((B.step >> B.charge N 1) (budget-of (st .budget))) (machine-of w N (with-words v st)) ≡ ok tt (machine-of w N (with-words v u))

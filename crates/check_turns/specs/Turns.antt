@@ -20,7 +20,8 @@ use Rattle.words.specs.Table.{part}
 use Rattle.entries.specs.Lies.{machine-of}
 use Rattle.entries.specs.declared.State.{State}
 use Rattle.substitutions.specs.Chain.{chain, outcome}
-use Rattle.stores.specs.Stores.{Outside, Wrote, Failed}
+use Rattle.budget.specs.Beyond.{Beyond}
+use Rattle.stores.specs.Stores.{Wrote, Failed}
 use Rattle.shape.specs.Performs.{Sound}
 use Rattle.check_turns.specs.declared.Turned.{Turned}
 use Rattle.check_turns.specs.declared.Turned.the-variants as Turned
@@ -36,11 +37,11 @@ pub record Reaches (f : Check Text) (N : ℕ) (text : Text) (w w₁ : List ℕ) 
   pub is : f (machine-of w N st) ≡ ok (drop (c .at) text) (machine-of w₁ N u)
   pub inside : c .at ≤ length text
   pub sound : Sound 0 N w₁ u
-  pub outside : Outside N w w₁
+  pub outside : Beyond 8 N w w₁
 
 pub record Refuses (f : Check Text) (N : ℕ) (w w₁ : List ℕ) (st : State) (r : Refusal) : Type 0 where
   pub is : f (machine-of w N st) ≡ refused (number r)
-  pub outside : Outside N w w₁
+  pub outside : Beyond 8 N w w₁
 
 abbrev pub Turning : Check Text → (N : ℕ) → Text → (w w₁ : List ℕ) → State → Turned → Type 0
 Turning f N text w w₁ st (Turned.To u c) = Reaches f N text w w₁ st u c
@@ -60,7 +61,7 @@ pub record Goes (N : ℕ) (text : Text) (at : ℕ) (w w₁ : List ℕ) (st u : S
   pub inside : c .at ≤ length text
   pub onward : at < c .at
   pub sound : Sound 0 N w₁ u
-  pub outside : Outside N w w₁
+  pub outside : Beyond 8 N w w₁
 
 abbrev pub Letters : (N : ℕ) → Text → (at : ℕ) → (w w₁ : List ℕ) → State → Letter → Type 0
 Letters N text at w w₁ st (Letter.More u c) = Goes N text at w w₁ st u c
@@ -104,11 +105,11 @@ pub record PlainReaches (N : ℕ) (text : Text) (at : ℕ) (w w₁ : List ℕ) (
   pub some : from < c .at
   pub inside : c .at ≤ length text
   pub sound : Sound 0 N w₁ u
-  pub outside : Outside N w w₁
+  pub outside : Beyond 8 N w w₁
 
 pub record PlainRefuses (N : ℕ) (text : Text) (at : ℕ) (w w₁ : List ℕ) (st : State) (r : Refusal) : Type 0 where
   pub is : (v : ℕ) → turn N (Ch.one N) (drop at text) (machine-of w N (with-words v st)) ≡ refused (number r)
-  pub outside : Outside N w w₁
+  pub outside : Beyond 8 N w w₁
 
 abbrev pub PlainTurning : (N : ℕ) → Text → (at : ℕ) → (w w₁ : List ℕ) → State → PlainTurned → Type 0
 PlainTurning N text at w w₁ st (PlainTurned.To u from c) = PlainReaches N text at w w₁ st u from c

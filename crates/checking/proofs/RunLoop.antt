@@ -25,9 +25,8 @@ use Rattle.text.proofs.Steps.{front}
 use Rattle.entries.specs.Lies.{machine-of, stack-of, seen-of}
 use Rattle.entries.specs.declared.State.{State}
 use Rattle.runs.proofs.Turns.{over, no-more, goes-on, stops}
-use Rattle.stores.specs.Stores.{Outside}
+use Rattle.budget.specs.Beyond.{Beyond, beyond-itself, beyond-both}
 use Rattle.shape.specs.Performs.{Sound}
-use Rattle.stores.proofs.Stores.{outside-both, outside-none}
 use Rattle.words.specs.Table.{part}
 use Rattle.waiting.specs.Waits.{noted-behind, Waits, More}
 use Rattle.waiting.specs.declared.Waiting.{Waiting}
@@ -57,7 +56,7 @@ pub record Running (N k : ℕ) (body : Text) (w w₁ : List ℕ) (i at : ℕ) (u
   pub is : check N k body ≡ turns (turn N (Ch.one N)) (k - i) (drop at body) (machine-of w₁ N (with-words (all-words body q u) u))
   pub inside : at ≤ length body
   pub sound : Sound 0 N w₁ u
-  pub outside : Outside N w w₁
+  pub outside : Beyond 8 N w w₁
   pub waits : Waits body q
 
 -- nothing lies on the stack, and nothing is remembered
@@ -83,7 +82,7 @@ module _ (N k : ℕ) (body : Text) (w : List ℕ) {b : Budget} (q : budget-of b 
         ∙ (let z : k ≡ k - 0 = omega arith in ap (λ (n : ℕ). turns (turn N (Ch.one N)) n body (machine-of w N (with-words (all-words body p (at-first b)) (at-first b)))) z);
     inside = omega arith;
     sound = record { long = l; ceiling = h; total = omega (arith, fresh-total); fits = subst (Fits 0) first-machine fresh-fits };
-    outside = outside-none;
+    outside = beyond-itself _ _;
     waits = a;
   }
 
@@ -119,20 +118,20 @@ module _ {N k : ℕ} {body : Text} {w w₁ : List ℕ} {i at : ℕ} {u : State} 
     -- from the definition's turn
     turned-to : {w₂ : List ℕ} {x : State} (c : Cursor) (p : Waiting) →
         turn N (Ch.one N) (drop at body) (machine-of w₁ N (with-words (all-words body q u) u)) ≡ ok (drop (c .at) body) (machine-of w₂ N (with-words (all-words body p x) x)) →
-        c .at ≤ length body → Sound 0 N w₂ x → Outside N w₁ w₂ → Waits body p → Running N k body w w₂ (i + 1) (c .at) x p
+        c .at ≤ length body → Sound 0 N w₂ x → Beyond 8 N w₁ w₂ → Waits body p → Running N k body w w₂ (i + 1) (c .at) x p
     turned-to {w₂} {x} c p g e s o a = record {
       is = h .is ∙ goes-on (turn N (Ch.one N)) body at l (machine-of w₁ N (with-words (all-words body q u) u)) (k - i) (k - (i + 1)) one-less (drop (c .at) body) (machine-of w₂ N (with-words (all-words body p x) x)) g;
       inside = e;
       sound = s;
-      outside = outside-both (h .outside) o;
+      outside = beyond-both (h .outside) o;
       waits = a;
     }
 
-    turned-not : {w₂ : List ℕ} (r : Refusal) → turn N (Ch.one N) (drop at body) (machine-of w₁ N (with-words (all-words body q u) u)) ≡ refused (number r) → Outside N w₁ w₂ → Stopped N k body w w₂ r at
+    turned-not : {w₂ : List ℕ} (r : Refusal) → turn N (Ch.one N) (drop at body) (machine-of w₁ N (with-words (all-words body q u) u)) ≡ refused (number r) → Beyond 8 N w₁ w₂ → Stopped N k body w w₂ r at
     turned-not r g o = record {
       is = h .is ∙ stops (turn N (Ch.one N)) body at l (machine-of w₁ N (with-words (all-words body q u) u)) (k - i) (k - (i + 1)) one-less (number r) g;
       inside = omega arith;
-      outside = outside-both (h .outside) o;
+      outside = beyond-both (h .outside) o;
     }
 
     -- no digit stands there: the literals go on waiting

@@ -12,7 +12,7 @@ use Rattle.definition.specs.Enums.{number}
 use Rattle.definition.specs.declared.Refusal.{Refusal}
 use Rattle.entries.specs.Lies.{machine-of}
 use Rattle.entries.specs.declared.State.{State}
-use Rattle.stores.specs.Stores.{Outside}
+use Rattle.budget.specs.Beyond.{Beyond}
 use Rattle.shape.specs.Performs.{Sound}
 use Rattle.check_turns.specs.Turns.{with-words}
 use Rattle.checking.specs.declared.Ended.{Ended}
@@ -28,13 +28,13 @@ pub record Ran (N k : ℕ) (body : Text) (w w₁ : List ℕ) (u : State) : Type 
   pub words : ℕ
   pub is : check N k body ≡ ran (machine-of w₁ N (with-words words u))
   pub sound : Sound 0 N w₁ u
-  pub outside : Outside N w w₁
+  pub outside : Beyond 8 N w w₁
 
 -- the operator that is refused began at the place `at` of the body
 pub record Stopped (N k : ℕ) (body : Text) (w w₁ : List ℕ) (r : Refusal) (at : ℕ) : Type 0 where
   pub is : check N k body ≡ stopped (number r) (length body - at)
   pub inside : at ≤ length body
-  pub outside : Outside N w w₁
+  pub outside : Beyond 8 N w w₁
 
 abbrev pub Ending : (N k : ℕ) → Text → (w w₁ : List ℕ) → Ended → Type 0
 Ending N k body w w₁ (Ended.Ran u) = Ran N k body w w₁ u

@@ -26,7 +26,8 @@ use Rattle.nodes.specs.Gives.{nothing-spare}
 use Rattle.nodes.specs.declared.Step.{Step}
 use Rattle.nodes.specs.declared.Step.the-variants as Step
 use Rattle.nodes.proofs.ByKind.{positive}
-use Rattle.nodes.proofs.Taking.{less-spare, keeps-itself, beyond-itself}
+use Rattle.budget.specs.Beyond.{beyond-itself}
+use Rattle.nodes.proofs.Taking.{less-spare, keeps-itself}
 use Rattle.nodes.proofs.Leaving.{keeps-then}
 use Rattle.copies.specs.Copying.{for-pushes, Pushes, Went, Copied, Recalled, recall-copies}
 

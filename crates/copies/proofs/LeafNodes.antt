@@ -25,7 +25,8 @@ use Rattle.definition.specs.declared.Refusal.the-variants as Refusal
 use Rattle.records.specs.Lies.{at, Lies, Would}
 use Rattle.records.specs.Holds.{Fixed, Names, Named, Spare, Holds, Ready, Keeps, Grew, Pushed, Remembered, for-record, for-push, for-keeping}
 use Rattle.records.specs.declared.State.{State}
-use Rattle.nodes.specs.Gives.{spare, nothing-spare, full-spare, taken, Makes, Given, Gives, Operates, Beyond, WrapsTo}
+use Rattle.budget.specs.Beyond.{Beyond}
+use Rattle.nodes.specs.Gives.{spare, nothing-spare, full-spare, taken, Makes, Given, Gives, Operates, WrapsTo}
 use Rattle.nodes.specs.declared.Placed.{Placed}
 use Rattle.nodes.specs.declared.Step.{Step}
 use Rattle.nodes.specs.declared.Step.the-variants as Step
@@ -257,7 +258,7 @@ optional-done {w} {w₁} {w₂} {N} {st} {u} {v} {p} times (Step.Refused e) a b 
   long = c .beyond .long ∙ b .keeps .long;
 }
 
-pub optional-missing : {w w₁ : List ℕ} {N : ℕ} {st u : State} (times : ℕ) → WrapsTo w N st u → ((nm : Names) (sp : Spare) (m : Demangler) → Holds nm w N u sp m → R.pop-if K.is-type m ≡ refused 10) × Beyond w w₁ N → Operates (λ _. R.optional N times) w w₁ N st (Step.Refused Refusal.Stack)
+pub optional-missing : {w w₁ : List ℕ} {N : ℕ} {st u : State} (times : ℕ) → WrapsTo w N st u → ((nm : Names) (sp : Spare) (m : Demangler) → Holds nm w N u sp m → R.pop-if K.is-type m ≡ refused 10) × Beyond 64 N w w₁ → Operates (λ _. R.optional N times) w w₁ N st (Step.Refused Refusal.Stack)
 unfolding R.optional number
 optional-missing times a b = record {
   runs = λ nm m f h. let i = a .gives nm full-spare m h in rw (i .1, b .0 nm full-spare (i .0) (i .2)) refl;

@@ -13,7 +13,8 @@ use Rattle.definition.specs.Perform.{Demangler, Run}
 use Rattle.records.specs.Lies.{Lies}
 use Rattle.records.specs.Holds.{Fixed, Names, Named, Spare, Holds, Keeps}
 use Rattle.records.specs.declared.State.{State}
-use Rattle.nodes.specs.Gives.{spare, Beyond}
+use Rattle.budget.specs.Beyond.{Beyond}
+use Rattle.nodes.specs.Gives.{spare}
 use Rattle.nodes.specs.declared.Step.{Step}
 use Rattle.nodes.specs.declared.Step.the-variants as Step
 
@@ -48,7 +49,7 @@ Copying w w′ N st times p (Step.Refused r) = (nm : Names) (sp : Spare) (m : De
 
 pub record Copied (w w′ : List ℕ) (N : ℕ) (st : State) (times p : ℕ) (r : Step) : Type 0 where
   pub runs : Copying w w′ N st times p r
-  pub beyond : Beyond w w′ N
+  pub beyond : Beyond 64 N w w′
 
 -- a remembered node, and so many copies of it
 abbrev pub recall-copies : (N times index : ℕ) → Run Done
@@ -60,7 +61,7 @@ Recalling w w′ N st times index (Step.Refused r) = (nm : Names) (sp : Spare) (
 
 pub record Recalled (w w′ : List ℕ) (N : ℕ) (st : State) (times index : ℕ) (r : Step) : Type 0 where
   pub runs : Recalling w w′ N st times index r
-  pub beyond : Beyond w w′ N
+  pub beyond : Beyond 64 N w w′
 
 -- `Optional` of a type is remembered, and so many copies of it
 abbrev pub optional-copies : (N times : ℕ) → Node → Run Done
@@ -76,4 +77,4 @@ Optioning w w′ N st times p (Step.Refused r) = (nm : Names) (sp : Spare) (m : 
 
 pub record Optioned (w w′ : List ℕ) (N : ℕ) (st : State) (times p : ℕ) (r : Step) : Type 0 where
   pub runs : Optioning w w′ N st times p r
-  pub beyond : Beyond w w′ N
+  pub beyond : Beyond 64 N w w′

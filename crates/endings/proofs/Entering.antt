@@ -2,9 +2,9 @@
 use mathlib.Core.Path.{_≡_, refl, sym, ap, subst, _∙_}
 use mathlib.Core.Bool.{not}
 use mathlib.Core.List.{List}
-use Prim.Native.Nat.{ℕ, _*_, _≤_}
+use Prim.Native.Nat.{ℕ}
 use lib.Dec.{T, T-not}
-use lib.ListN.{length, getD}
+use lib.ListN.{length}
 use Rattle.definition.specs.Text.{Text, Symbol}
 use Rattle.definition.specs.Calls as Calls
 use Rattle.definition.specs.Calls.{refusal, within, admit}
@@ -17,18 +17,18 @@ use Rattle.symbols.specs.Symbol as Symbols
 use Rattle.admission.specs.Admits.{framed, Body, Refused, Bounds, Admits}
 use Rattle.admission.specs.declared.Admitted.{Admitted}
 use Rattle.admission.specs.declared.Admitted.the-variants as Admitted
+use Rattle.budget.specs.Beyond.{Beyond, beyond-itself}
 use Rattle.endings.specs.Answers.{Answers}
 use Rattle.endings.proofs.Ends.{answers-is, refused-answers}
 use Rattle.endings.specs.Calls.{early, Scratch}
 
 -- THE WORKSPACE
 pub scratch-same : (need N n : ℕ) (w : List ℕ) → Scratch need N n w w
-scratch-same need N n w = record { long = refl; past = λ i h. refl; untouched = λ h. refl }
+scratch-same need N n w = record { beyond = beyond-itself w N; untouched = λ h. refl }
 
-pub scratch-run : (need N n : ℕ) (w w′ : List ℕ) (m : ℕ) → n ≡ m → T (not (early m)) → length w′ ≡ length w → ((i : ℕ) → need * N ≤ i → getD w′ i 0 ≡ getD w i 0) → Scratch need N n w w′
-scratch-run need N n w w′ m e h l p = record {
-  long = l;
-  past = p;
+pub scratch-run : (need N n : ℕ) (w w′ : List ℕ) (m : ℕ) → n ≡ m → T (not (early m)) → Beyond need N w w′ → Scratch need N n w w′
+scratch-run need N n w w′ m e h b = record {
+  beyond = b;
   untouched = λ k. absurd (T-not (early m) h (subst (λ (x : ℕ). T (early x)) e k));
 }
 

@@ -2,9 +2,9 @@
 use mathlib.Core.Path.{_≡_}
 use mathlib.Core.Bool.{Bool, _&&_}
 use mathlib.Core.List.{List}
-use Prim.Native.Nat.{ℕ, _*_, _≤_}
+use Prim.Native.Nat.{ℕ}
 use lib.Dec.{T, ltb}
-use lib.ListN.{length, getD}
+use Rattle.budget.specs.Beyond.{Beyond}
 
 -- refused by 1 to 5
 abbrev pub early : ℕ → Bool
@@ -13,6 +13,5 @@ early n = ltb 0 n && ltb n 6
 -- of a call that answers with the number n: its workspace is scratch up to need × N numbers; past them it is as it was, and wholly so where 1
 -- to 5 refuse
 pub record Scratch (need N n : ℕ) (w w′ : List ℕ) : Type 0 where
-  pub long : length w′ ≡ length w
-  pub past : (i : ℕ) → need * N ≤ i → getD w′ i 0 ≡ getD w i 0
+  pub beyond : Beyond need N w w′
   pub untouched : T (early n) → w′ ≡ w

@@ -3,7 +3,7 @@ use mathlib.Core.Path.{_≡_, refl, sym, ap, _∙_, subst}
 use mathlib.Core.Bool.{Bool}
 use mathlib.Core.List.{List, _∷_}
 use mathlib.Core.Option.{Option}
-use Prim.Native.Nat.{ℕ, _+_, _-_, _≤_, _<_}
+use Prim.Native.Nat.{ℕ, _+_, _≤_, _<_}
 use Prim.Native.String.{String}
 use native.Mathlib.Omega.{arith}
 use Rattle.definition.specs.Base.{Late, Out, ok, refused, and-then, _>>=_, _>>_, Done}
@@ -22,7 +22,8 @@ use Rattle.records.specs.declared.State.{State}
 use Rattle.nodes.specs.declared.Marked.{Marked}
 use Rattle.nodes.specs.declared.Step.{Step}
 use Rattle.nodes.specs.declared.Step.the-variants as Step
-use Rattle.nodes.specs.Gives.{spare, nothing-spare, full-spare, for-nodes, taken, most, Given, Gives, GivesName, Marks, Operates, Left, Beyond}
+use Rattle.budget.specs.Beyond.{Beyond}
+use Rattle.nodes.specs.Gives.{spare, nothing-spare, full-spare, for-nodes, taken, most, Given, Gives, GivesName, Marks, Operates, Left}
 use Rattle.nodes.proofs.Taking.{less-spare}
 use Rattle.nodes.proofs.Ready.{after-given, after-mark, after-name, room}
 use Rattle.labels.specs.LabelsOf.{Treed, GivesLabels, TakesLabels}
@@ -56,12 +57,12 @@ module _ {f : Run Node} {own gain : ℕ} {w w₁ : List ℕ} {N : ℕ} {st u : S
 pub typed-at : (f : Run Node) (own gain : ℕ) {w w′ : List ℕ} {N : ℕ} {st : State} {r : Built} (p : ℕ) (u : State) → r ≡ Built.Place p u → TakesType f own gain w w′ N st r → GivesType f own gain w w′ N st p u
 typed-at f own gain {w} {w′} {N} {st} p u e h = subst (λ (x : Built). TakesType f own gain w w′ N st x) e h
 
-pub typed-not : (f : Run Node) (own gain : ℕ) {w w′ : List ℕ} {N : ℕ} {st : State} {r : Built} (e : Refusal) → r ≡ Built.Refused e → TakesType f own gain w w′ N st r → ((nm : Names) (sp : Spare) (m : Demangler) → Holds nm w N st (for-nodes own sp) m → f m ≡ refused (number e)) × Beyond w w′ N
+pub typed-not : (f : Run Node) (own gain : ℕ) {w w′ : List ℕ} {N : ℕ} {st : State} {r : Built} (e : Refusal) → r ≡ Built.Refused e → TakesType f own gain w w′ N st r → ((nm : Names) (sp : Spare) (m : Demangler) → Holds nm w N st (for-nodes own sp) m → f m ≡ refused (number e)) × Beyond 64 N w w′
 typed-not f own gain {w} {w′} {N} {st} e q h = subst (λ (x : Built). TakesType f own gain w w′ N st x) q h
 
 -- an operator that begins with a type, which is refused
 pub first-refused : (o : (ℕ → String) → Run Done) (f : Run Node) (k : (ℕ → String) → Node → Run Done) (own : ℕ) {w w′ : List ℕ} {N : ℕ} {st : State} (e : Refusal) → own ≤ 4 → ((s : ℕ → String) (m : Demangler) → o s m ≡ and-then (f m) (k s)) →
-    ((nm : Names) (sp : Spare) (m : Demangler) → Holds nm w N st (for-nodes own sp) m → f m ≡ refused (number e)) × Beyond w w′ N → Operates o w w′ N st (Step.Refused e)
+    ((nm : Names) (sp : Spare) (m : Demangler) → Holds nm w N st (for-nodes own sp) m → f m ≡ refused (number e)) × Beyond 64 N w w′ → Operates o w w′ N st (Step.Refused e)
 first-refused o f k own e l q c = record {
   runs = λ nm m i h. q (nm .fixed) m ∙ ap (λ y. and-then y (k (nm .fixed))) (c .0 nm after-type m (less-spare full-spare (for-nodes own after-type) (omega arith) (omega arith) (omega arith) (omega arith) h));
   past = c .1 .past;
@@ -93,7 +94,7 @@ module _ {w w₁ : List ℕ} {N : ℕ} {st u₁ : State} {ty : ℕ} {b : Marked}
   }
 
   module _ {name : ℕ} {u₂ : State} (d : GivesName R.pop-name w₁ N (b .next) name u₂) where
-    pub variable-alone : {w₂ : List ℕ} → ((nm : Names) (sp : Spare) (m : Demangler) → Holds nm w₁ N u₂ sp m → R.context m ≡ refused 10) × Beyond w₁ w₂ N → Operates (λ s. R.variable (letter s accessor)) w w₂ N st (Step.Refused Refusal.Stack)
+    pub variable-alone : {w₂ : List ℕ} → ((nm : Names) (sp : Spare) (m : Demangler) → Holds nm w₁ N u₂ sp m → R.context m ≡ refused 10) × Beyond 64 N w₁ w₂ → Operates (λ s. R.variable (letter s accessor)) w w₂ N st (Step.Refused Refusal.Stack)
     unfolding number
     variable-alone c = record {
       runs = λ nm m i h.
@@ -146,7 +147,7 @@ module _ {w w₁ : List ℕ} {N : ℕ} {st u₁ : State} {ty : ℕ} {b : Marked}
         long = z .beyond .long ∙ (e .keeps .long ∙ a .keeps .long);
       }
 
-pub variable-untyped : (accessor : Accessor) {w w′ : List ℕ} {N : ℕ} {st : State} (e : Refusal) → ((nm : Names) (sp : Spare) (m : Demangler) → Holds nm w N st (for-nodes 1 sp) m → variable-type m ≡ refused (number e)) × Beyond w w′ N → Operates (λ s. R.variable (letter s accessor)) w w′ N st (Step.Refused e)
+pub variable-untyped : (accessor : Accessor) {w w′ : List ℕ} {N : ℕ} {st : State} (e : Refusal) → ((nm : Names) (sp : Spare) (m : Demangler) → Holds nm w N st (for-nodes 1 sp) m → variable-type m ≡ refused (number e)) × Beyond 64 N w w′ → Operates (λ s. R.variable (letter s accessor)) w w′ N st (Step.Refused e)
 variable-untyped accessor e c = first-refused (λ s. R.variable (letter s accessor)) variable-type (λ s. variable-rest (letter s accessor)) 1 e (omega arith) (λ s m. variable-split (letter s accessor) m) c
 
 -- LABELLED ENTITIES
@@ -163,13 +164,13 @@ module _ {w w′ : List ℕ} {N : ℕ} {st : State} {ty : ℕ} {r : LabelsTaken}
   pub labels-at : (first number : ℕ) (u : State) → r ≡ LabelsTaken.Labels first number u → (nm : Names) (x : Node) → Lies (Named nm) x w ty → GivesLabels nm (R.labels x) w w′ N st first number u
   labels-at first number u e nm x l = subst (λ (y : LabelsTaken). TakesLabels nm (R.labels x) w w′ N st y) e (h nm x l)
 
-  pub labels-not : r ≡ LabelsTaken.Nothing → (nm : Names) (x : Node) → Lies (Named nm) x w ty → ((sp : Spare) (m : Demangler) → Holds nm w N st sp m → R.labels x m ≡ refused 10) × Beyond w w′ N
+  pub labels-not : r ≡ LabelsTaken.Nothing → (nm : Names) (x : Node) → Lies (Named nm) x w ty → ((sp : Spare) (m : Demangler) → Holds nm w N st sp m → R.labels x m ≡ refused 10) × Beyond 64 N w w′
   labels-not e nm x l = subst (λ (y : LabelsTaken). TakesLabels nm (R.labels x) w w′ N st y) e (h nm x l)
 
 -- the type, and the labels that it asks for
 module _ {f : Run Node} {own gain : ℕ} {w w₁ : List ℕ} {N : ℕ} {st u₁ : State} {ty : ℕ} (a : GivesType f own gain w w₁ N st ty u₁) (low : own ≤ 4) where
   -- no labels
-  pub labelless : {w₂ : List ℕ} (o : Run Done) (k : Node → Labels → Run Done) → ((m : Demangler) → o m ≡ and-then (f m) (λ t. R.labels t >>= k t)) → Ready w N st full-spare → ((nm : Names) (x : Node) → Lies (Named nm) x w₁ ty → ((sp : Spare) (m : Demangler) → Holds nm w₁ N u₁ sp m → R.labels x m ≡ refused 10) × Beyond w₁ w₂ N) → Operates (λ _. o) w w₂ N st (Step.Refused Refusal.Stack)
+  pub labelless : {w₂ : List ℕ} (o : Run Done) (k : Node → Labels → Run Done) → ((m : Demangler) → o m ≡ and-then (f m) (λ t. R.labels t >>= k t)) → Ready w N st full-spare → ((nm : Names) (x : Node) → Lies (Named nm) x w₁ ty → ((sp : Spare) (m : Demangler) → Holds nm w₁ N u₁ sp m → R.labels x m ≡ refused 10) × Beyond 64 N w₁ w₂) → Operates (λ _. o) w w₂ N st (Step.Refused Refusal.Stack)
   unfolding number
   labelless o k e q c =
       let y = typed a low q in
@@ -226,14 +227,14 @@ pub initializer-split : (b : Bool) (m : Demangler) → R.initializer b m ≡ and
 unfolding R.initializer
 initializer-split b m = signed-split (R.pop-if K.is-type) (λ t. R.labels t >>= initializer-rest b t) m
 
-pub initializer-untyped : (b : Bool) {w w′ : List ℕ} {N : ℕ} {st : State} (e : Refusal) → ((nm : Names) (sp : Spare) (m : Demangler) → Holds nm w N st (for-nodes 1 sp) m → signed-type (R.pop-if K.is-type) m ≡ refused (number e)) × Beyond w w′ N → Operates (λ _. R.initializer b) w w′ N st (Step.Refused e)
+pub initializer-untyped : (b : Bool) {w w′ : List ℕ} {N : ℕ} {st : State} (e : Refusal) → ((nm : Names) (sp : Spare) (m : Demangler) → Holds nm w N st (for-nodes 1 sp) m → signed-type (R.pop-if K.is-type) m ≡ refused (number e)) × Beyond 64 N w w′ → Operates (λ _. R.initializer b) w w′ N st (Step.Refused e)
 initializer-untyped b e c = first-refused (λ _. R.initializer b) (signed-type (R.pop-if K.is-type)) (λ _ t. R.labels t >>= initializer-rest b t) 1 e (omega arith) (λ s m. initializer-split b m) c
 
-pub initializer-labelless : (b : Bool) {w w₁ w₂ : List ℕ} {N : ℕ} {st u₁ : State} {ty : ℕ} → GivesType (signed-type (R.pop-if K.is-type)) 1 3 w w₁ N st ty u₁ → Ready w N st full-spare → ((nm : Names) (x : Node) → Lies (Named nm) x w₁ ty → ((sp : Spare) (m : Demangler) → Holds nm w₁ N u₁ sp m → R.labels x m ≡ refused 10) × Beyond w₁ w₂ N) → Operates (λ _. R.initializer b) w w₂ N st (Step.Refused Refusal.Stack)
+pub initializer-labelless : (b : Bool) {w w₁ w₂ : List ℕ} {N : ℕ} {st u₁ : State} {ty : ℕ} → GivesType (signed-type (R.pop-if K.is-type)) 1 3 w w₁ N st ty u₁ → Ready w N st full-spare → ((nm : Names) (x : Node) → Lies (Named nm) x w₁ ty → ((sp : Spare) (m : Demangler) → Holds nm w₁ N u₁ sp m → R.labels x m ≡ refused 10) × Beyond 64 N w₁ w₂) → Operates (λ _. R.initializer b) w w₂ N st (Step.Refused Refusal.Stack)
 initializer-labelless b a q c = labelless a (omega arith) (R.initializer b) (initializer-rest b) (λ m. initializer-split b m) q c
 
 module _ (b : Bool) {w w₁ w₂ : List ℕ} {N : ℕ} {st u₁ u₂ : State} {ty first last : ℕ} (a : GivesType (signed-type (R.pop-if K.is-type)) 1 3 w w₁ N st ty u₁) (c : (nm : Names) (x : Node) → Lies (Named nm) x w₁ ty → GivesLabels nm (R.labels x) w₁ w₂ N u₁ first last u₂) (q : Ready w N st full-spare) where
-  pub initializer-alone : {w₃ : List ℕ} → ((nm : Names) (sp : Spare) (m : Demangler) → Holds nm w₂ N u₂ sp m → R.context m ≡ refused 10) × Beyond w₂ w₃ N → Operates (λ _. R.initializer b) w w₃ N st (Step.Refused Refusal.Stack)
+  pub initializer-alone : {w₃ : List ℕ} → ((nm : Names) (sp : Spare) (m : Demangler) → Holds nm w₂ N u₂ sp m → R.context m ≡ refused 10) × Beyond 64 N w₂ w₃ → Operates (λ _. R.initializer b) w w₃ N st (Step.Refused Refusal.Stack)
   unfolding number
   initializer-alone d =
       let k = labels-keep a (omega arith) c q in
@@ -289,10 +290,10 @@ pub function-split : (m : Demangler) → R.plain-function m ≡ and-then (signed
 unfolding R.plain-function
 function-split m = signed-split R.function-type (λ t. R.labels t >>= function-rest t) m
 
-pub function-untyped : {w w′ : List ℕ} {N : ℕ} {st : State} (e : Refusal) → ((nm : Names) (sp : Spare) (m : Demangler) → Holds nm w N st (for-nodes 2 sp) m → signed-type R.function-type m ≡ refused (number e)) × Beyond w w′ N → Operates (λ _. R.plain-function) w w′ N st (Step.Refused e)
+pub function-untyped : {w w′ : List ℕ} {N : ℕ} {st : State} (e : Refusal) → ((nm : Names) (sp : Spare) (m : Demangler) → Holds nm w N st (for-nodes 2 sp) m → signed-type R.function-type m ≡ refused (number e)) × Beyond 64 N w w′ → Operates (λ _. R.plain-function) w w′ N st (Step.Refused e)
 function-untyped e c = first-refused (λ _. R.plain-function) (signed-type R.function-type) (λ _ t. R.labels t >>= function-rest t) 2 e (omega arith) (λ s m. function-split m) c
 
-pub function-labelless : {w w₁ w₂ : List ℕ} {N : ℕ} {st u₁ : State} {ty : ℕ} → GivesType (signed-type R.function-type) 2 0 w w₁ N st ty u₁ → Ready w N st full-spare → ((nm : Names) (x : Node) → Lies (Named nm) x w₁ ty → ((sp : Spare) (m : Demangler) → Holds nm w₁ N u₁ sp m → R.labels x m ≡ refused 10) × Beyond w₁ w₂ N) → Operates (λ _. R.plain-function) w w₂ N st (Step.Refused Refusal.Stack)
+pub function-labelless : {w w₁ w₂ : List ℕ} {N : ℕ} {st u₁ : State} {ty : ℕ} → GivesType (signed-type R.function-type) 2 0 w w₁ N st ty u₁ → Ready w N st full-spare → ((nm : Names) (x : Node) → Lies (Named nm) x w₁ ty → ((sp : Spare) (m : Demangler) → Holds nm w₁ N u₁ sp m → R.labels x m ≡ refused 10) × Beyond 64 N w₁ w₂) → Operates (λ _. R.plain-function) w w₂ N st (Step.Refused Refusal.Stack)
 function-labelless a q c = labelless a (omega arith) R.plain-function function-rest (λ m. function-split m) q c
 
 module _ {w w₁ w₂ : List ℕ} {N : ℕ} {st u₁ u₂ : State} {ty first last : ℕ} (a : GivesType (signed-type R.function-type) 2 0 w w₁ N st ty u₁) (c : (nm : Names) (x : Node) → Lies (Named nm) x w₁ ty → GivesLabels nm (R.labels x) w₁ w₂ N u₁ first last u₂) (q : Ready w N st full-spare) where
@@ -310,7 +311,7 @@ module _ {w w₁ w₂ : List ℕ} {N : ℕ} {st u₁ u₂ : State} {ty first las
       }
 
   module _ {name : ℕ} {u₃ : State} (b : GivesName R.pop-name w₂ N u₂ name u₃) where
-    pub function-alone : {w₃ : List ℕ} → ((nm : Names) (sp : Spare) (m : Demangler) → Holds nm w₂ N u₃ sp m → R.context m ≡ refused 10) × Beyond w₂ w₃ N → Operates (λ _. R.plain-function) w w₃ N st (Step.Refused Refusal.Stack)
+    pub function-alone : {w₃ : List ℕ} → ((nm : Names) (sp : Spare) (m : Demangler) → Holds nm w₂ N u₃ sp m → R.context m ≡ refused 10) × Beyond 64 N w₂ w₃ → Operates (λ _. R.plain-function) w w₃ N st (Step.Refused Refusal.Stack)
     unfolding number
     function-alone d =
         let k = labels-keep a (omega arith) c q in

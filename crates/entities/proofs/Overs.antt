@@ -16,7 +16,8 @@ use Rattle.records.specs.Holds.{Fixed, Names, Named, Spare, Holds, Ready, for-r
 use Rattle.records.specs.declared.State.{State}
 use Rattle.definition.specs.declared.Refusal.the-variants as Refusal
 use Rattle.nodes.specs.declared.Step.the-variants as Step
-use Rattle.nodes.specs.Gives.{nothing-spare, full-spare, taken, Given, Gives, Under, Operates, Left, Beyond}
+use Rattle.budget.specs.Beyond.{Beyond}
+use Rattle.nodes.specs.Gives.{nothing-spare, full-spare, taken, Given, Gives, Under, Operates, Left}
 use Rattle.nodes.proofs.Taking.{less-spare}
 use Rattle.nodes.proofs.OneChilds.{given-size, given-room}
 use Rattle.entities.specs.Entities.{OneOver, one-over}
@@ -50,7 +51,7 @@ over {k} {a} {c} {f} {gain} {w} {w₁} {w₂} {N} {st} {u} {v} {p} o g l = recor
   long = l .keeps .long ∙ g .keeps .long;
 }
 
-pub over-refused : (f : Run Node) (c : (ℕ → String) → Node → Node) {w w′ : List ℕ} {N : ℕ} {st : State} → ((nm : Names) (sp : Spare) (m : Demangler) → Holds nm w N st sp m → f m ≡ refused 10) × Beyond w w′ N →
+pub over-refused : (f : Run Node) (c : (ℕ → String) → Node → Node) {w w′ : List ℕ} {N : ℕ} {st : State} → ((nm : Names) (sp : Spare) (m : Demangler) → Holds nm w N st sp m → f m ≡ refused 10) × Beyond 64 N w w′ →
     Operates (one-over f c) w w′ N st (Step.Refused Refusal.Stack)
 unfolding number
 over-refused f c h = record { runs = λ nm m i k. ap (λ y. and-then y (λ x. push (c (nm .fixed) x))) (h .0 nm full-spare m k); past = h .1 .past; long = h .1 .long }

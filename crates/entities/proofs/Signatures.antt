@@ -2,7 +2,7 @@
 use mathlib.Core.Path.{_≡_, refl, sym, ap, _∙_, subst}
 use mathlib.Core.List.{List, [], _∷_}
 use mathlib.Core.Option.{Option, some, none}
-use Prim.Native.Nat.{ℕ, _+_, _-_, _≤_, _<_}
+use Prim.Native.Nat.{ℕ, _+_, _≤_, _<_}
 use native.Mathlib.Omega.{arith}
 use lib.Dec.{eqb}
 use Rattle.definition.specs.Base.{ok, refused}
@@ -17,8 +17,9 @@ use Rattle.definition.specs.declared.Refusal.the-variants as Refusal
 use Rattle.records.specs.Lies.{at, Lies}
 use Rattle.records.specs.Holds.{Names, Named, Spare, Inside, Holds, Ready, Keeps, Grew}
 use Rattle.records.specs.declared.State.{State}
-use Rattle.nodes.specs.Gives.{nothing-spare, full-spare, for-nodes, taken, most, Given, Gives, GivesIf, WrapsTo, Beyond, Building, Builds}
-use Rattle.nodes.proofs.Taking.{less-spare, keeps-itself, beyond-itself}
+use Rattle.budget.specs.Beyond.{Beyond, beyond-itself}
+use Rattle.nodes.specs.Gives.{nothing-spare, full-spare, for-nodes, taken, most, Given, Gives, GivesIf, WrapsTo, Building, Builds}
+use Rattle.nodes.proofs.Taking.{less-spare, keeps-itself}
 use Rattle.nodes.proofs.Leaving.{keeps-then}
 use Rattle.entities.specs.Entities.{Signs, signed, weight-of, GivesSigned, GivesType, TakesType, GivenUnder, GivesUnder, TakesUnder, Signing, variable-type, signed-type}
 use Rattle.entities.specs.declared.Signature.{Signature}
@@ -245,7 +246,7 @@ signed-least : {nm : Names} {w : List ℕ} {N : ℕ} {u : State} {m : Demangler}
 signed-least none sp h = h
 signed-least (some s) sp h = less-spare (signed (some s) sp) sp (omega arith) (omega arith) (omega arith) (omega arith) h
 
-pub signed-untyped : (f : Run Node) (own gain : ℕ) {w w′ : List ℕ} {N : ℕ} {st : State} {r : Signed} (e : Refusal) → GivesSigned w N st r → ((nm : Names) (sp : Spare) (m : Demangler) → Holds nm w N (r .next) (for-nodes own sp) m → f m ≡ refused (number e)) × Beyond w w′ N → TakesType (signed-type f) (own + 1) gain w w′ N st (Built.Refused e)
+pub signed-untyped : (f : Run Node) (own gain : ℕ) {w w′ : List ℕ} {N : ℕ} {st : State} {r : Signed} (e : Refusal) → GivesSigned w N st r → ((nm : Names) (sp : Spare) (m : Demangler) → Holds nm w N (r .next) (for-nodes own sp) m → f m ≡ refused (number e)) × Beyond 64 N w w′ → TakesType (signed-type f) (own + 1) gain w w′ N st (Built.Refused e)
 signed-untyped f own gain e b c = (
   λ nm sp m h.
       let s = b .gives nm (for-nodes (own + 1) sp) m h in
@@ -255,7 +256,7 @@ signed-untyped f own gain e b c = (
 )
 
 -- refused whatever there is to spare
-pub untyped : {f : Run Node} {w w′ : List ℕ} {N : ℕ} {st : State} → ((nm : Names) (sp : Spare) (m : Demangler) → Holds nm w N st sp m → f m ≡ refused 10) × Beyond w w′ N → ((nm : Names) (sp : Spare) (m : Demangler) → Holds nm w N st (for-nodes 0 sp) m → f m ≡ refused (number Refusal.Stack)) × Beyond w w′ N
+pub untyped : {f : Run Node} {w w′ : List ℕ} {N : ℕ} {st : State} → ((nm : Names) (sp : Spare) (m : Demangler) → Holds nm w N st sp m → f m ≡ refused 10) × Beyond 64 N w w′ → ((nm : Names) (sp : Spare) (m : Demangler) → Holds nm w N st (for-nodes 0 sp) m → f m ≡ refused (number Refusal.Stack)) × Beyond 64 N w w′
 unfolding number
 untyped c = (λ nm sp m h. c .0 nm (for-nodes 0 sp) m h, c .1)
 
@@ -268,7 +269,7 @@ after-signed b q =
 pub built-at : (f : Run Node) (own gain : ℕ) {w w′ : List ℕ} {N : ℕ} {st : State} {r : Built} (p : ℕ) (u : State) → r ≡ Built.Place p u → Builds f own gain w w′ N st r → GivesType f own gain w w′ N st p u
 built-at f own gain {w} {w′} {N} {st} p u e h = let g : Building f own gain w w′ N st p u = subst (λ (x : Built). Builds f own gain w w′ N st x) e h in record { below = g .below; deep = g .deep; rising = g .rising; keeps = g .keeps; gives = g .gives }
 
-pub built-not : (f : Run Node) (own gain : ℕ) {w w′ : List ℕ} {N : ℕ} {st : State} {r : Built} (e : Refusal) → r ≡ Built.Refused e → Builds f own gain w w′ N st r → ((nm : Names) (sp : Spare) (m : Demangler) → Holds nm w N st (for-nodes own sp) m → f m ≡ refused (number e)) × Beyond w w′ N
+pub built-not : (f : Run Node) (own gain : ℕ) {w w′ : List ℕ} {N : ℕ} {st : State} {r : Built} (e : Refusal) → r ≡ Built.Refused e → Builds f own gain w w′ N st r → ((nm : Names) (sp : Spare) (m : Demangler) → Holds nm w N st (for-nodes own sp) m → f m ≡ refused (number e)) × Beyond 64 N w w′
 built-not f own gain {w} {w′} {N} {st} e q h =
-    let g : ((nm : Names) (sp : Spare) (m : Demangler) → Holds nm w N st sp m → f m ≡ refused (number e)) × Beyond w w′ N = subst (λ (x : Built). Builds f own gain w w′ N st x) q h in
+    let g : ((nm : Names) (sp : Spare) (m : Demangler) → Holds nm w N st sp m → f m ≡ refused (number e)) × Beyond 64 N w w′ = subst (λ (x : Built). Builds f own gain w w′ N st x) q h in
     (λ nm sp m k. g .0 nm (for-nodes own sp) m k, g .1)

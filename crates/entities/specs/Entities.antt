@@ -13,7 +13,8 @@ use Rattle.definition.specs.Kind as K
 use Rattle.records.specs.Lies.{at, Child, Body, Lies}
 use Rattle.records.specs.Holds.{Fixed, Names, Named, Spare, Holds, Keeps}
 use Rattle.records.specs.declared.State.{State}
-use Rattle.nodes.specs.Gives.{Performed, most, Beyond, spare, nothing-spare, for-nodes, Given}
+use Rattle.budget.specs.Beyond.{Beyond}
+use Rattle.nodes.specs.Gives.{Performed, most, spare, nothing-spare, for-nodes, Given}
 use Rattle.entities.specs.declared.Signature.{Signature}
 use Rattle.entities.specs.declared.Signature.the-variants as Signature
 use Rattle.entities.specs.declared.Signed.{Signed}
@@ -72,7 +73,7 @@ pub record GivesType (f : Run Node) (own gain : ℕ) (w w′ : List ℕ) (N : �
 
 abbrev pub TakesType : Run Node → (own gain : ℕ) → (w w′ : List ℕ) (N : ℕ) (st : State) → Built → Type 0
 TakesType f own gain w w′ N st (Built.Place p u) = GivesType f own gain w w′ N st p u
-TakesType f own gain w w′ N st (Built.Refused r) = ((nm : Names) (sp : Spare) (m : Demangler) → Holds nm w N st (for-nodes own sp) m → f m ≡ refused (number r)) × Beyond w w′ N
+TakesType f own gain w w′ N st (Built.Refused r) = ((nm : Names) (sp : Spare) (m : Demangler) → Holds nm w N st (for-nodes own sp) m → f m ≡ refused (number r)) × Beyond 64 N w w′
 
 -- a type under a signature, if there is one
 pub record GivenUnder (nm : Names) (s : Option Node) (x : Node) (w : List ℕ) (N p : ℕ) (u : State) (sp : Spare) (m : Demangler) : Type 0 where
@@ -92,7 +93,7 @@ pub record GivesUnder (w w′ : List ℕ) (N : ℕ) (st : State) (signature : Si
 
 abbrev pub TakesUnder : (w w′ : List ℕ) (N : ℕ) (st : State) (signature : Signature) (ty : ℕ) → Built → Type 0
 TakesUnder w w′ N st signature ty (Built.Place p u) = GivesUnder w w′ N st signature ty p u
-TakesUnder w w′ N st signature ty (Built.Refused r) = ((nm : Names) (s : Option Node) (x : Node) (sp : Spare) (m : Demangler) → Signs nm w (st .top) signature s → Holds nm w N st sp m → under-signature s x m ≡ refused (number r)) × Beyond w w′ N
+TakesUnder w w′ N st signature ty (Built.Refused r) = ((nm : Names) (s : Option Node) (x : Node) (sp : Spare) (m : Demangler) → Signs nm w (st .top) signature s → Holds nm w N st sp m → under-signature s x m ≡ refused (number r)) × Beyond 64 N w w′
 
 -- some type lies at ty, some signature where there is one, and there is room for the record over them
 pub record Signing (w : List ℕ) (N : ℕ) (st : State) (signature : Signature) (ty : ℕ) : Type 0 where

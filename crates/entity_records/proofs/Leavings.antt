@@ -19,7 +19,8 @@ use Rattle.records.specs.declared.State.{State}
 use Rattle.nodes.specs.declared.Step.{Step}
 use Rattle.nodes.specs.declared.Step.the-variants as Step
 use Rattle.nodes.specs.Gives.{spare, nothing-spare, Under, Left, GivesName, TakesName}
-use Rattle.nodes.proofs.Taking.{less-spare, beyond-itself}
+use Rattle.budget.specs.Beyond.{beyond-itself}
+use Rattle.nodes.proofs.Taking.{less-spare}
 use Rattle.entity_records.specs.Leaves.{Entity, LeavesVariable}
 use Rattle.nodes.specs.declared.NameTaken.{NameTaken}
 use Rattle.nodes.specs.declared.NameTaken.the-variants as NameTaken

@@ -16,7 +16,8 @@ use Rattle.nodes.specs.declared.Step.the-variants as Step
 use Rattle.records.specs.Lies.{at, Lies}
 use Rattle.records.specs.Holds.{Fixed, Names, Named, Spare, Holds}
 use Rattle.records.specs.declared.State.{State}
-use Rattle.nodes.specs.Gives.{most, Beyond, spare, Ran}
+use Rattle.budget.specs.Beyond.{Beyond}
+use Rattle.nodes.specs.Gives.{most, spare, Ran}
 
 -- ENTITIES
 -- the trees at c and ty may be children of a record that is made
@@ -43,4 +44,4 @@ variable-end l v = judge l >>= λ a. push (accessed v a)
 -- a variable is left, or its accessor
 pub record LeavesVariable (accessor : Accessor) (w w′ : List ℕ) (N : ℕ) (st : State) (name c ty : ℕ) (r : Step) : Type 0 where
   pub ends : (nm : Names) (n : Name) (x t : Node) → Fixed (nm .fixed) → Named nm name n → Lies (Named nm) x w c → Lies (Named nm) t w ty → Ends (variable-end (letter (nm .fixed) accessor) (Variable x n t)) nm (spare 7 1 (size x + size t + 2) 0) w w′ N st r
-  pub beyond : Beyond w w′ N
+  pub beyond : Beyond 64 N w w′

@@ -21,7 +21,8 @@ use Rattle.records.specs.Holds.{Names, Named, Spare, Holds, Ready, TopIs, Took,
 use Rattle.records.specs.declared.State.{State}
 use Rattle.records.specs.declared.Popped.{Popped}
 use Rattle.records.specs.declared.Popped.the-variants as Popped
-use Rattle.nodes.specs.Gives.{Beyond, Marks}
+use Rattle.budget.specs.Beyond.{Beyond}
+use Rattle.nodes.specs.Gives.{Marks}
 use Rattle.nodes.specs.declared.Marked.{Marked}
 use Rattle.nodes.proofs.ByKind.{identifier-of}
 use Rattle.nodes.proofs.Taking.{less-spare, keeps-itself}
@@ -104,7 +105,7 @@ label-empty m e = rw e refl
 pub cell-at : {w w′ : List ℕ} {N : ℕ} {st : State} {next : ℕ} {r : Popped} (p : ℕ) (u : State) → r ≡ Popped.Place p u → TakesCell w w′ N st next r → GivesCell w w′ N st next p u
 cell-at {w} {w′} {N} {st} {next} p u e h = subst (λ (x : Popped). TakesCell w w′ N st next x) e h
 
-pub cell-not : {w w′ : List ℕ} {N : ℕ} {st : State} (next : ℕ) {r : Popped} → r ≡ Popped.Nothing → TakesCell w w′ N st next r → ((nm : Names) (sp : Spare) (m : Demangler) → Holds nm w N st sp m → one-label m ≡ refused 10) × Beyond w w′ N
+pub cell-not : {w w′ : List ℕ} {N : ℕ} {st : State} (next : ℕ) {r : Popped} → r ≡ Popped.Nothing → TakesCell w w′ N st next r → ((nm : Names) (sp : Spare) (m : Demangler) → Holds nm w N st sp m → one-label m ≡ refused 10) × Beyond 64 N w w′
 cell-not {w} {w′} {N} {st} next e h = subst (λ (x : Popped). TakesCell w w′ N st next x) e h
 
 -- SO MANY ENTRIES
@@ -169,7 +170,7 @@ module _ {w₀ w : List ℕ} {N : ℕ} {st u : State} {many left first : ℕ} (t
         };
   }
 
-  pub labels-fail : {w′ : List ℕ} → 0 < left → ((nm : Names) (sp : Spare) (m : Demangler) → Holds nm w N u sp m → one-label m ≡ refused 10) × Beyond w w′ N → (nm : Names) → TakesLabels nm (some-labels many) w₀ w′ N st LabelsTaken.Nothing
+  pub labels-fail : {w′ : List ℕ} → 0 < left → ((nm : Names) (sp : Spare) (m : Demangler) → Holds nm w N u sp m → one-label m ≡ refused 10) × Beyond 64 N w w′ → (nm : Names) → TakesLabels nm (some-labels many) w₀ w′ N st LabelsTaken.Nothing
   labels-fail l f nm = (
     λ sp m h.
         let g = t .gives nm sp m h in

@@ -10,7 +10,7 @@ use Rattle.definition.specs.Enums.{number}
 use Rattle.records.specs.Lies.{at, Lies, LabelIs, LabelList}
 use Rattle.records.specs.Holds.{Names, Named, Spare, Holds, Keeps}
 use Rattle.records.specs.declared.State.{State}
-use Rattle.nodes.specs.Gives.{Beyond}
+use Rattle.budget.specs.Beyond.{Beyond}
 use Rattle.records.specs.declared.Popped.{Popped}
 use Rattle.records.specs.declared.Popped.the-variants as Popped
 use Rattle.labels.specs.declared.LabelsTaken.{LabelsTaken}
@@ -50,7 +50,7 @@ pub record GivesCell (w w′ : List ℕ) (N : ℕ) (st : State) (next p : ℕ) (
 
 abbrev pub TakesCell : (w w′ : List ℕ) (N : ℕ) (st : State) (next : ℕ) → Popped → Type 0
 TakesCell w w′ N st next (Popped.Place p u) = GivesCell w w′ N st next p u
-TakesCell w w′ N st next Popped.Nothing = ((nm : Names) (sp : Spare) (m : Demangler) → Holds nm w N st sp m → one-label m ≡ refused 10) × Beyond w w′ N
+TakesCell w w′ N st next Popped.Nothing = ((nm : Names) (sp : Spare) (m : Demangler) → Holds nm w N st sp m → one-label m ≡ refused 10) × Beyond 64 N w w′
 
 -- the step f took labels; they lie wherever the two numbers stand side by side in a later record
 pub record GivenLabels (nm : Names) (f : Run Labels) (w : List ℕ) (N first number : ℕ) (u : State) (sp : Spare) (m : Demangler) : Type 0 where
@@ -68,4 +68,4 @@ pub record GivesLabels (nm : Names) (f : Run Labels) (w w′ : List ℕ) (N : �
 
 abbrev pub TakesLabels : Names → Run Labels → (w w′ : List ℕ) (N : ℕ) (st : State) → LabelsTaken → Type 0
 TakesLabels nm f w w′ N st (LabelsTaken.Labels first number u) = GivesLabels nm f w w′ N st first number u
-TakesLabels nm f w w′ N st LabelsTaken.Nothing = ((sp : Spare) (m : Demangler) → Holds nm w N st sp m → f m ≡ refused 10) × Beyond w w′ N
+TakesLabels nm f w w′ N st LabelsTaken.Nothing = ((sp : Spare) (m : Demangler) → Holds nm w N st sp m → f m ≡ refused 10) × Beyond 64 N w w′

@@ -2,7 +2,7 @@
 use mathlib.Core.Path.{_≡_, refl, sym, ap, _∙_, subst}
 use mathlib.Core.Bool.{Bool}
 use mathlib.Core.List.{List, [], _∷_}
-use Prim.Native.Nat.{ℕ, _+_, _-_, _≤_}
+use Prim.Native.Nat.{ℕ, _+_, _≤_}
 use native.Mathlib.Omega.{arith}
 use lib.Dec.{eqb}
 use Rattle.definition.specs.Base.{refused, if_then_else_}
@@ -17,14 +17,15 @@ use Rattle.records.specs.declared.State.{State}
 use Rattle.nodes.specs.declared.Built.{Built}
 use Rattle.nodes.specs.declared.Built.the-variants as Built
 use Rattle.nodes.specs.declared.Marked.{Marked}
-use Rattle.nodes.specs.Gives.{spare, taken, for-nodes, Given, Gives, Building, Builds, Marks, WrapsTo, Beyond, between}
+use Rattle.budget.specs.Beyond.{Beyond, beyond-itself}
+use Rattle.nodes.specs.Gives.{spare, taken, for-nodes, Given, Gives, Building, Builds, Marks, WrapsTo, between}
 use Rattle.nodes.proofs.ByKind.{params-of}
-use Rattle.nodes.proofs.Taking.{less-spare, beyond-itself}
+use Rattle.nodes.proofs.Taking.{less-spare}
 use Rattle.nodes.proofs.Leaving.{keeps-then, beyond-then}
 
 -- f is refused for want of a node, and nothing past 64 × N changes
 abbrev pub Not : Run Node → (w w₁ : List ℕ) (N : ℕ) (st : State) → Type 0
-Not f w w₁ N st = ((nm : Names) (sp : Spare) (m : Demangler) → Holds nm w N st sp m → f m ≡ refused 10) × Beyond w w₁ N
+Not f w w₁ N st = ((nm : Names) (sp : Spare) (m : Demangler) → Holds nm w N st sp m → f m ≡ refused 10) × Beyond 64 N w w₁
 
 -- the size of a new record, where some machine has a node to spare for it
 new-size : {f : Run Node} {gain : ℕ} {nm : Names} {w : List ℕ} {N p : ℕ} {u : State} {sp : Spare} {m : Demangler} → Given f gain nm w N p u sp m → at w p 1 ≤ 262144
@@ -98,7 +99,7 @@ module _ {w : List ℕ} (w₁ : List ℕ) {N : ℕ} {st u : State} {t y : Marked
     d .1,
   )
 
-pub function-unwrapped : {w : List ℕ} {N : ℕ} {st : State} → ((nm : Names) (sp : Spare) (m : Demangler) → Holds nm w N st sp m → M.wrap m ≡ refused 8) → ((nm : Names) (sp : Spare) (m : Demangler) → Holds nm w N st sp m → R.function-type m ≡ refused 8) × Beyond w w N
+pub function-unwrapped : {w : List ℕ} {N : ℕ} {st : State} → ((nm : Names) (sp : Spare) (m : Demangler) → Holds nm w N st sp m → M.wrap m ≡ refused 8) → ((nm : Names) (sp : Spare) (m : Demangler) → Holds nm w N st sp m → R.function-type m ≡ refused 8) × Beyond 64 N w w
 unfolding R.function-type
 function-unwrapped a = (λ nm sp m h. rw (a nm sp m h) refl, beyond-itself _ _)
 

@@ -2,7 +2,7 @@
 use mathlib.Core.Path.{_≡_, refl, sym, ap, _∙_, subst}
 use mathlib.Core.Bool.{Bool, true, false}
 use mathlib.Core.List.{List}
-use Prim.Native.Nat.{ℕ, suc, _+_, _-_, _≤_}
+use Prim.Native.Nat.{ℕ, suc, _+_, _≤_}
 use native.Mathlib.Omega.{arith}
 use lib.Dec.{ltb}
 use Rattle.definition.specs.Base.{Done, Out, ok, refused, if_then_else_}
@@ -20,7 +20,8 @@ use Rattle.definition.specs.declared.Refusal.{Refusal}
 use Rattle.records.specs.Lies.{Lies}
 use Rattle.records.specs.Holds.{Names, Named, Spare, Inside, Holds, Grew, Pushed, Remembered, Keeps, for-push, for-keeping}
 use Rattle.records.specs.declared.State.{State}
-use Rattle.nodes.specs.Gives.{Left, Kept, WrapsTo, Beyond}
+use Rattle.budget.specs.Beyond.{Beyond}
+use Rattle.nodes.specs.Gives.{Left, Kept, WrapsTo}
 
 pub keeps-then : {w w₁ w₂ : List ℕ} {N : ℕ} (top top₁ : ℕ) → top ≤ top₁ → Keeps w w₁ N top → Keeps w₁ w₂ N top₁ → Keeps w w₂ N top
 keeps-then top top₁ l a b = record {
@@ -30,11 +31,8 @@ keeps-then top top₁ l a b = record {
   long = b .long ∙ a .long;
 }
 
-pub beyond-then : {w w₁ w₂ : List ℕ} {N top : ℕ} → Keeps w w₁ N top → Beyond w₁ w₂ N → Beyond w w₂ N
+pub beyond-then : {w w₁ w₂ : List ℕ} {N top : ℕ} → Keeps w w₁ N top → Beyond 64 N w₁ w₂ → Beyond 64 N w w₂
 beyond-then a b = record { past = λ i h. b .past i h ∙ a .past i h; long = b .long ∙ a .long }
-
-pub beyond-both : {w w₁ w₂ : List ℕ} {N : ℕ} → Beyond w w₁ N → Beyond w₁ w₂ N → Beyond w w₂ N
-beyond-both a b = record { past = λ i h. b .past i h ∙ a .past i h; long = b .long ∙ a .long }
 
 -- the state after a record was made has room for its push
 pub grew-room : {w w₁ : List ℕ} {N : ℕ} {st u : State} {vs : List ℕ} → Inside w N st 5 1 0 → Grew w w₁ N st u vs → Inside w₁ N u 3 1 0

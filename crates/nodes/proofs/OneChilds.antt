@@ -1,7 +1,7 @@
 -- Operators that put one node over the top.
 use mathlib.Core.Path.{_≡_, subst}
 use mathlib.Core.List.{List}
-use Prim.Native.Nat.{ℕ, _+_, _-_, _*_, _^_, _≤_, _<_}
+use Prim.Native.Nat.{ℕ, _+_, _*_, _^_, _≤_, _<_}
 use native.Mathlib.Omega.{arith}
 use lib.ListN.{length}
 use Rattle.definition.specs.Base.{refused}
@@ -15,7 +15,8 @@ use Rattle.records.specs.declared.Popped.{Popped}
 use Rattle.records.specs.declared.Popped.the-variants as Popped
 use Rattle.nodes.specs.declared.WrapSpent.{WrapSpent}
 use Rattle.nodes.specs.declared.WrapSpent.the-variants as WrapSpent
-use Rattle.nodes.specs.Gives.{full-spare, Given, Gives, Takes, WrapsTo, Wraps, Beyond}
+use Rattle.budget.specs.Beyond.{Beyond}
+use Rattle.nodes.specs.Gives.{full-spare, Given, Gives, Takes, WrapsTo, Wraps}
 
 -- a tree that was taken is below top, and small
 module _ {f : Run Node} {gain : ℕ} {w w₁ : List ℕ} {N : ℕ} {st u : State} {p : ℕ} (g : Gives f gain w w₁ N st p u) (r : Ready w N st full-spare) where
@@ -42,7 +43,7 @@ taken-place f gain {w} {w′} {N} {st} p u e h = subst (λ (x : Popped). Takes f
 pub taken-nothing : (f : Run Node) (gain : ℕ) {w : List ℕ} (w′ : List ℕ) {N : ℕ} {st : State} {r : Popped} → r ≡ Popped.Nothing → Takes f gain w w′ N st r → (nm : Names) (sp : Spare) (m : Demangler) → Holds nm w N st sp m → f m ≡ refused 10
 taken-nothing f gain {w} w′ {N} {st} e h = subst (λ (x : Popped). Takes f gain w w′ N st x) e h .0
 
-pub taken-not : (f : Run Node) (gain : ℕ) {w w′ : List ℕ} {N : ℕ} {st : State} {r : Popped} → r ≡ Popped.Nothing → Takes f gain w w′ N st r → ((nm : Names) (sp : Spare) (m : Demangler) → Holds nm w N st sp m → f m ≡ refused 10) × Beyond w w′ N
+pub taken-not : (f : Run Node) (gain : ℕ) {w w′ : List ℕ} {N : ℕ} {st : State} {r : Popped} → r ≡ Popped.Nothing → Takes f gain w w′ N st r → ((nm : Names) (sp : Spare) (m : Demangler) → Holds nm w N st sp m → f m ≡ refused 10) × Beyond 64 N w w′
 taken-not f gain {w} {w′} {N} {st} e h = subst (λ (x : Popped). Takes f gain w w′ N st x) e h
 
 -- an arm's answer of `wrap`

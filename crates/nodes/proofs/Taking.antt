@@ -20,7 +20,7 @@ use Rattle.records.specs.Holds.{Names, Named, Spare, Holds, Ready, TopIs, Took,
 use Rattle.records.specs.declared.Popped.{Popped}
 use Rattle.records.specs.declared.Popped.the-variants as Popped
 use Rattle.records.specs.declared.State.{State}
-use Rattle.nodes.specs.Gives.{nothing-spare, taken, Gives, GivesIf, Tries, Marks, GivesName, Beyond}
+use Rattle.nodes.specs.Gives.{nothing-spare, taken, Gives, GivesIf, Tries, Marks, GivesName}
 use Rattle.nodes.proofs.ByKind.{identifier-of}
 
 -- a place below top is a record inside the workspace
@@ -178,7 +178,3 @@ marked k g = record {
 pub unmarked : {w : List ℕ} {N : ℕ} {st : State} (k : ℕ) → ((nm : Names) (sp : Spare) (m : Demangler) → Holds nm w N st sp m → R.try (eqb k) m ≡ ok none m) → Marks (R.took k) w N st (record { taken = false; next = st })
 unfolding M.took is-some
 unmarked k g = record { deep = omega arith; top = refl; gives = λ nm sp m h. (m, rw (g nm sp m h) refl, h) }
-
--- nothing was written
-pub beyond-itself : (w : List ℕ) (N : ℕ) → Beyond w w N
-beyond-itself w N = record { past = λ i l. refl; long = refl }

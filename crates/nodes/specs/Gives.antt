@@ -11,6 +11,7 @@ use Rattle.definition.specs.Node.{Node, FunctionType, kind, size, count}
 use Rattle.definition.specs.Perform.{Demangler, Run, pop-if, function-params}
 use Rattle.definition.specs.Machine.{machine, restack, push, wrap}
 use Rattle.definition.specs.Enums.{number}
+use Rattle.budget.specs.Beyond.{Beyond}
 use Rattle.records.specs.Lies.{at, Child, Body, Lies, Would}
 use Rattle.records.specs.Holds.{Fixed, Names, Named, Spare, Inside, Holds, Keeps, for-record, for-push, for-keeping}
 use Rattle.records.specs.declared.State.{State}
@@ -64,14 +65,9 @@ pub record Under (w : List ℕ) (N : ℕ) (st : State) (p : ℕ) : Type 0 where
   pub below : p < st .top
   pub fits : at w p 1 + 1 < 2 ^ 32
 
--- nothing past 64 × N changes
-pub record Beyond (w w′ : List ℕ) (N : ℕ) : Type 0 where
-  pub past : (i : ℕ) → 64 * N ≤ i → getD w′ i 0 ≡ getD w i 0
-  pub long : length w′ ≡ length w
-
 abbrev pub Takes : Run Node → (gain : ℕ) → (w w′ : List ℕ) (N : ℕ) (st : State) → Popped → Type 0
 Takes f gain w w′ N st (Popped.Place p u) = Gives f gain w w′ N st p u
-Takes f gain w w′ N st Popped.Nothing = ((nm : Names) (sp : Spare) (m : Demangler) → Holds nm w N st sp m → f m ≡ refused 10) × Beyond w w′ N
+Takes f gain w w′ N st Popped.Nothing = ((nm : Names) (sp : Spare) (m : Demangler) → Holds nm w N st sp m → f m ≡ refused 10) × Beyond 64 N w w′
 
 -- a tree that is made of what is taken: so many nodes more than were taken
 abbrev pub for-nodes : ℕ → Spare → Spare
@@ -87,7 +83,7 @@ pub record Building (f : Run Node) (own gain : ℕ) (w w′ : List ℕ) (N : ℕ
 
 abbrev pub Builds : Run Node → (own gain : ℕ) → (w w′ : List ℕ) (N : ℕ) (st : State) → Built → Type 0
 Builds f own gain w w′ N st (Built.Place p u) = Building f own gain w w′ N st p u
-Builds f own gain w w′ N st (Built.Refused r) = ((nm : Names) (sp : Spare) (m : Demangler) → Holds nm w N st sp m → f m ≡ refused (number r)) × Beyond w w′ N
+Builds f own gain w w′ N st (Built.Refused r) = ((nm : Names) (sp : Spare) (m : Demangler) → Holds nm w N st sp m → f m ≡ refused (number r)) × Beyond 64 N w w′
 
 -- a tree that may be missing: f takes it, or leaves the machine as it is
 pub record GivenIf (f : Run (Option Node)) (nm : Names) (w : List ℕ) (N p : ℕ) (u : State) (sp : Spare) (m : Demangler) : Type 0 where

@@ -18,7 +18,8 @@ use Rattle.definition.specs.declared.Accessor.the-variants as Accessor
 use Rattle.definition.specs.declared.Refusal.{Refusal}
 use Rattle.records.specs.Holds.{Names, Spare, Inside, Holds, Ready, Pushed, for-push}
 use Rattle.records.specs.declared.State.{State}
-use Rattle.nodes.specs.Gives.{spare, nothing-spare, full-spare, taken, Given, Building, Builds, Performed, Operates, Beyond}
+use Rattle.budget.specs.Beyond.{Beyond}
+use Rattle.nodes.specs.Gives.{spare, nothing-spare, full-spare, taken, Given, Building, Builds, Performed, Operates}
 use Rattle.nodes.specs.declared.Built.{Built}
 use Rattle.nodes.specs.declared.Built.the-variants as Built
 use Rattle.nodes.specs.declared.Step.{Step}
@@ -63,7 +64,7 @@ module _ {w w₁ : List ℕ} {N : ℕ} {st u : State} {p : ℕ} where
     long = a .keeps .long ∙ g .keeps .long;
   }
 
-pub function-refused : {w w₁ : List ℕ} {N : ℕ} {st : State} {r : Refusal} → ((nm : Names) (sp : Spare) (m : Demangler) → Holds nm w N st sp m → R.function-type m ≡ refused (number r)) × Beyond w w₁ N → Operates (performed N Operator.FunctionType) w w₁ N st (Step.Refused r)
+pub function-refused : {w w₁ : List ℕ} {N : ℕ} {st : State} {r : Refusal} → ((nm : Names) (sp : Spare) (m : Demangler) → Holds nm w N st sp m → R.function-type m ≡ refused (number r)) × Beyond 64 N w w₁ → Operates (performed N Operator.FunctionType) w w₁ N st (Step.Refused r)
 unfolding R.perform Enums.operator
 function-refused g = record { runs = λ nm m i h. ap (λ y. and-then y (λ x. M.push x)) (g .0 nm full-spare m h); past = g .1 .past; long = g .1 .long }
 
@@ -71,5 +72,5 @@ function-refused g = record { runs = λ nm m i h. ap (λ y. and-then y (λ x. M.
 pub built-place : {w w₁ : List ℕ} {N : ℕ} {st : State} {r : Built} (p : ℕ) (u : State) → r ≡ Built.Place p u → Builds R.function-type 1 0 w w₁ N st r → Building R.function-type 1 0 w w₁ N st p u
 built-place {w} {w₁} {N} {st} p u e h = subst (λ (x : Built). Builds R.function-type 1 0 w w₁ N st x) e h
 
-pub built-refused : {w : List ℕ} (w₁ : List ℕ) {N : ℕ} {st : State} {r : Built} (x : Refusal) → r ≡ Built.Refused x → Builds R.function-type 1 0 w w₁ N st r → ((nm : Names) (sp : Spare) (m : Demangler) → Holds nm w N st sp m → R.function-type m ≡ refused (number x)) × Beyond w w₁ N
+pub built-refused : {w : List ℕ} (w₁ : List ℕ) {N : ℕ} {st : State} {r : Built} (x : Refusal) → r ≡ Built.Refused x → Builds R.function-type 1 0 w w₁ N st r → ((nm : Names) (sp : Spare) (m : Demangler) → Holds nm w N st sp m → R.function-type m ≡ refused (number x)) × Beyond 64 N w w₁
 built-refused {w} w₁ {N} {st} x e h = subst (λ (y : Built). Builds R.function-type 1 0 w w₁ N st y) e h

@@ -21,11 +21,10 @@ use Rattle.substitutions.specs.declared.SubstitutionRead.{SubstitutionRead}
 use Rattle.substitutions.specs.declared.SubstitutionRead.the-variants as SubstitutionRead
 use Rattle.records.specs.Holds.{Names, Spare, Holds, Ready}
 use Rattle.records.specs.declared.State.{State}
-use Rattle.nodes.specs.Gives.{nothing-spare, Beyond}
+use Rattle.budget.specs.Beyond.{Beyond, beyond-itself, beyond-both}
+use Rattle.nodes.specs.Gives.{nothing-spare}
 use Rattle.nodes.specs.declared.Step.{Step as Stepped}
 use Rattle.nodes.specs.declared.Step.the-variants as Stepped
-use Rattle.nodes.proofs.Taking.{beyond-itself}
-use Rattle.nodes.proofs.Leaving.{beyond-both}
 use Rattle.copies.specs.Copying.{Recalled, recall-copies}
 use Rattle.copies.proofs.Copies.{not-recalled}
 use Rattle.runs.proofs.Turns.{regroup}
@@ -100,7 +99,7 @@ reads-ready {text} r = record { names = names-of text (r .words); machine = r .m
 pub record Chaining (N : ℕ) (text : Text) (from at : ℕ) (w w₁ : List ℕ) (st u : State) : Type 0 where
   pub goes : (words : Noted) (m : Demangler) → Holds (names-of text words) w N st nothing-spare m → (m₁ : Demangler) × (chained N text from m ≡ chained N text at m₁) × Holds (names-of text words) w₁ N u nothing-spare m₁
   pub reads : Reads text w₁ N u nothing-spare
-  pub beyond : Beyond w w₁ N
+  pub beyond : Beyond 64 N w w₁
 
 pub chain-first : {N : ℕ} {text : Text} {w : List ℕ} {st : State} (from : ℕ) → Reads text w N st nothing-spare → Chaining N text from from w w st st
 chain-first {N} {text} {w} from r = record { goes = λ words m h. (m, refl, h); reads = r; beyond = beyond-itself w N }

@@ -23,7 +23,8 @@ use Rattle.records.specs.Holds.{Names, Named, spelled, fixed, Stack, Queue, Spa
 use Rattle.records.specs.declared.State.{State}
 use Rattle.records.proofs.Frame.{lies-move}
 use Rattle.nodes.specs.Gives.{nothing-spare, full-spare, Kept}
-use Rattle.nodes.proofs.Taking.{less-spare, beyond-itself}
+use Rattle.budget.specs.Beyond.{beyond-itself}
+use Rattle.nodes.proofs.Taking.{less-spare}
 use Rattle.naming.specs.Naming.{Noted, noted, names-of, naming}
 use Rattle.words.specs.Table.{part, table}
 use Rattle.words.specs.declared.Words.{Words}

@@ -37,7 +37,8 @@ use Rattle.records.specs.Holds.{Names, Spare, Holds}
 use Rattle.records.specs.declared.State.{State}
 use Rattle.nodes.specs.Gives.{nothing-spare, full-spare, Operates}
 use Rattle.nodes.specs.declared.Step.{Step as Stepped}
-use Rattle.nodes.proofs.Taking.{less-spare, beyond-itself}
+use Rattle.budget.specs.Beyond.{beyond-itself}
+use Rattle.nodes.proofs.Taking.{less-spare}
 use Rattle.naming.specs.Naming.{names-of}
 use Rattle.read_turns.specs.Turns.{Reads, Came, Fails, Turning, performs, chained, Performed, step-and-charge, Charged, Begins}
 use Rattle.read_turns.specs.declared.Turned.{Turned}

@@ -1,7 +1,7 @@
 -- What the answers of a turn on records say of the definition's reading.
 use mathlib.Core.Path.{_≡_}
 use mathlib.Core.List.{List}
-use Prim.Native.Nat.{ℕ, _-_, _≤_, _<_}
+use Prim.Native.Nat.{ℕ, _≤_, _<_}
 use Prim.Native.String.{String}
 use lib.ListN.{length, drop}
 use Rattle.definition.specs.Base.{Out, ok, refused, Done, _>>_}
@@ -21,7 +21,8 @@ use Rattle.substitutions.specs.Chain.{chain, outcome}
 use Rattle.naming.specs.Naming.{Noted, noted, names-of, naming}
 use Rattle.records.specs.Holds.{Names, Spare, Holds}
 use Rattle.records.specs.declared.State.{State}
-use Rattle.nodes.specs.Gives.{nothing-spare, full-spare, Beyond, Operates}
+use Rattle.budget.specs.Beyond.{Beyond}
+use Rattle.nodes.specs.Gives.{nothing-spare, full-spare, Operates}
 use Rattle.nodes.specs.declared.Step.the-variants as Step
 use Rattle.words.specs.Table.{part, table, Fitting}
 use Rattle.words.specs.declared.Words.{Words}
@@ -51,11 +52,11 @@ pub record Came (f : Run Text) (text : Text) (words : Noted) (w : List ℕ) (N :
 pub record Comes (f : Run Text) (sp : Spare) (text : Text) (w w′ : List ℕ) (N : ℕ) (st u : State) (c : Cursor) : Type 0 where
   pub comes : (words : Noted) (m : Demangler) → Holds (names-of text words) w N st sp m → Came f text words w′ N u c m
   pub inside : c .at ≤ length text
-  pub beyond : Beyond w w′ N
+  pub beyond : Beyond 64 N w w′
 
 pub record Fails (f : Run Text) (sp : Spare) (text : Text) (w w′ : List ℕ) (N : ℕ) (st : State) (r : Refusal) : Type 0 where
   pub fails : (words : Noted) (m : Demangler) → Holds (names-of text words) w N st sp m → f m ≡ refused (number r)
-  pub beyond : Beyond w w′ N
+  pub beyond : Beyond 64 N w w′
 
 abbrev pub Turning : Run Text → Spare → Text → (w w′ : List ℕ) (N : ℕ) (st : State) → Turned → Type 0
 Turning f sp text w w′ N st (Turned.To u c) = Comes f sp text w w′ N st u c
@@ -79,7 +80,7 @@ pub record Goes (N : ℕ) (text : Text) (at : ℕ) (w w′ : List ℕ) (st u : S
   pub goes : (words : Noted) (m : Demangler) → Holds (names-of text words) w N st nothing-spare m → Went N text at words w′ u c m
   pub inside : c .at ≤ length text
   pub onward : at < c .at
-  pub beyond : Beyond w w′ N
+  pub beyond : Beyond 64 N w w′
 
 abbrev pub Letters : (N : ℕ) → Text → (at : ℕ) → (w w′ : List ℕ) → State → Letter → Type 0
 Letters N text at w w′ st (Letter.More u c) = Goes N text at w w′ st u c
@@ -107,11 +108,11 @@ Begins N st (Begun.Refused r) = (nm : Names) (w : List ℕ) (m : Demangler) → 
 pub record NameCame (N : ℕ) (text : Text) (at : ℕ) (words after : Words) (w w′ : List ℕ) (st u : State) (c : Cursor) : Type 0 where
   pub comes : (m : Demangler) → Holds (naming text words) w N st nothing-spare m → Came (turn N (Reading.one N) (drop at text)) text (noted (table text after) (table text after)) w′ N u c m
   pub inside : c .at ≤ length text
-  pub beyond : Beyond w w′ N
+  pub beyond : Beyond 64 N w w′
 
 pub record NameFails (N : ℕ) (text : Text) (at : ℕ) (words : Words) (w w′ : List ℕ) (st : State) (r : Refusal) : Type 0 where
   pub fails : (m : Demangler) → Holds (naming text words) w N st nothing-spare m → turn N (Reading.one N) (drop at text) m ≡ refused (number r)
-  pub beyond : Beyond w w′ N
+  pub beyond : Beyond 64 N w w′
 
 abbrev pub NameTurning : (N : ℕ) → Text → (at : ℕ) → (words after : Words) → (w w′ : List ℕ) → State → Turned → Type 0
 NameTurning N text at words after w w′ st (Turned.To u c) = NameCame N text at words after w w′ st u c
@@ -126,7 +127,7 @@ pub record PlainCame (N : ℕ) (text : Text) (at from : ℕ) (w w′ : List ℕ)
   pub comes : (words : Noted) (m : Demangler) → Holds (names-of text words) w N st nothing-spare m → Came (turn N (Reading.one N) (drop at text)) text (noted (words .words) (W.note-words (part text from (c .at)) (words .all))) w′ N u c m
   pub order : from ≤ c .at
   pub inside : c .at ≤ length text
-  pub beyond : Beyond w w′ N
+  pub beyond : Beyond 64 N w w′
 
 abbrev pub PlainTurning : (N : ℕ) → Text → (at : ℕ) → (w w′ : List ℕ) → State → PlainTurned → Type 0
 PlainTurning N text at w w′ st (PlainTurned.To u from c) = PlainCame N text at from w w′ st u c

@@ -21,9 +21,8 @@ use Rattle.text.specs.declared.Cursor.{Cursor}
 use Rattle.records.specs.Holds.{weight, Holds}
 use Rattle.records.specs.declared.State.{State}
 use Rattle.runs.proofs.Turns.{over, no-more, goes-on, stops}
-use Rattle.nodes.specs.Gives.{nothing-spare, Beyond}
-use Rattle.nodes.proofs.Taking.{beyond-itself}
-use Rattle.nodes.proofs.Leaving.{beyond-both}
+use Rattle.budget.specs.Beyond.{Beyond, beyond-itself, beyond-both}
+use Rattle.nodes.specs.Gives.{nothing-spare}
 use Rattle.naming.specs.Naming.{Noted, noted, names-of, naming}
 use Rattle.words.specs.Table.{table, Fitting}
 use Rattle.words.specs.declared.Words.{Words}
@@ -50,7 +49,7 @@ pub record Running (N k : ℕ) (body : Text) (w w₁ : List ℕ) (i at : ℕ) (w
   pub holds : Holds (names-of body (all-of body words waiting)) w₁ N u nothing-spare machine
   pub fitting : Fitting body words
   pub waits : Waits body waiting
-  pub beyond : Beyond w w₁ N
+  pub beyond : Beyond 64 N w w₁
 
 -- nothing lies there
 abbrev pub at-first : Budget → State

@@ -21,7 +21,8 @@ use mathlib.Core.Option.{some, none}
 use Rattle.reading.specs.declared.Sole.{Sole}
 use Rattle.reading.specs.declared.Sole.the-variants as Sole
 use Rattle.records.specs.declared.State.{State}
-use Rattle.nodes.specs.Gives.{nothing-spare, Beyond}
+use Rattle.budget.specs.Beyond.{Beyond}
+use Rattle.nodes.specs.Gives.{nothing-spare}
 use Rattle.words.specs.Table.{table, Fitting}
 use Rattle.words.specs.declared.Words.{Words}
 use Rattle.reading.specs.declared.Ended.{Ended}
@@ -39,13 +40,13 @@ pub record Ran (N k : ℕ) (body : Text) (w w′ : List ℕ) (words : Words) (u 
   pub is : read N k body ≡ ran machine
   pub holds : Holds (names-of body (noted (table body words) all)) w′ N u nothing-spare machine
   pub fitting : Fitting body words
-  pub beyond : Beyond w w′ N
+  pub beyond : Beyond 64 N w w′
 
 -- the operator that is refused began at the place `at` of the body
 pub record Stopped (N k : ℕ) (body : Text) (w w′ : List ℕ) (r : Refusal) (at : ℕ) : Type 0 where
   pub is : read N k body ≡ stopped (number r) (length body - at)
   pub inside : at ≤ length body
-  pub beyond : Beyond w w′ N
+  pub beyond : Beyond 64 N w w′
 
 abbrev pub Ending : (N k : ℕ) → Text → (w w′ : List ℕ) → Words → Ended → Type 0
 Ending N k body w w′ words (Ended.Ran u) = Ran N k body w w′ words u

@@ -2,7 +2,7 @@
 use mathlib.Core.Path.{_≡_, refl, sym, ap, _∙_, subst}
 use mathlib.Core.Bool.{true}
 use mathlib.Core.List.{List, _∷_}
-use Prim.Native.Nat.{ℕ, _+_, _-_, _≤_}
+use Prim.Native.Nat.{ℕ, _+_, _≤_}
 use native.Mathlib.Omega.{arith}
 use Rattle.definition.specs.Base.{refused}
 use Rattle.definition.specs.Enums as Enums
@@ -22,13 +22,14 @@ use Rattle.records.specs.declared.Popped.the-variants as Popped
 use Rattle.records.specs.declared.State.{State}
 use Rattle.nodes.specs.declared.Built.{Built}
 use Rattle.nodes.specs.declared.Built.the-variants as Built
-use Rattle.nodes.specs.Gives.{taken, for-nodes, Given, Gives, Takes, Building, Builds, Left, Beyond}
+use Rattle.budget.specs.Beyond.{Beyond}
+use Rattle.nodes.specs.Gives.{taken, for-nodes, Given, Gives, Takes, Building, Builds, Left}
 use Rattle.nodes.proofs.Taking.{less-spare}
 use Rattle.nodes.proofs.OneChilds.{taken-place, taken-not}
 
 -- f is refused with the number r, and nothing past 64 × N changes
 abbrev pub Not : Run Node → ℕ → (w w₁ : List ℕ) (N : ℕ) (st : State) → Type 0
-Not f r w w₁ N st = ((nm : Names) (sp : Spare) (m : Demangler) → Holds nm w N st sp m → f m ≡ refused r) × Beyond w w₁ N
+Not f r w w₁ N st = ((nm : Names) (sp : Spare) (m : Demangler) → Holds nm w N st sp m → f m ≡ refused r) × Beyond 64 N w w₁
 
 -- WHAT A RECORD IS ABOUT
 -- a tree that gives back less

@@ -2,7 +2,7 @@
 use mathlib.Core.Path.{_≡_, refl, sym, ap, _∙_, subst}
 use mathlib.Core.Bool.{Bool, true, false}
 use mathlib.Core.List.{List, [], _∷_}
-use Prim.Native.Nat.{ℕ, _+_, _-_, _^_, _<_}
+use Prim.Native.Nat.{ℕ, _+_, _^_, _<_}
 use Prim.Native.String.{String}
 use native.Mathlib.Omega.{arith}
 use lib.Dec.{eqb}
@@ -30,8 +30,9 @@ use Rattle.records.specs.declared.State.{State}
 use Rattle.nodes.specs.declared.Placed.{Placed}
 use Rattle.nodes.specs.declared.Step.{Step}
 use Rattle.nodes.specs.declared.Step.the-variants as Step
-use Rattle.nodes.specs.Gives.{spare, nothing-spare, full-spare, for-nodes, taken, Gives, Takes, GivesName, Makes, Operates, Left, Beyond}
-use Rattle.nodes.proofs.Taking.{less-spare, beyond-itself}
+use Rattle.budget.specs.Beyond.{Beyond, beyond-itself}
+use Rattle.nodes.specs.Gives.{spare, nothing-spare, full-spare, for-nodes, taken, Gives, Takes, GivesName, Makes, Operates, Left}
+use Rattle.nodes.proofs.Taking.{less-spare}
 use Rattle.nodes.proofs.Leaving.{keeps-then}
 use Rattle.nodes.proofs.Ready.{after-given, room}
 use Rattle.entity_records.specs.Leaves.{Entity, Ends}
@@ -123,7 +124,7 @@ module _ {w : List ℕ} {N : ℕ} {st : State} (on : Subject) where
         };
   })
 
-  pub subject-no-type : on ≡ Subject.OfStack → ((nm : Names) (sp : Spare) (m : Demangler) → Holds nm w N st sp m → R.pop-if K.is-type m ≡ refused 10) × Beyond w w N → TakesSubject (R.subject (E.subject on)) w w N st Popped.Nothing
+  pub subject-no-type : on ≡ Subject.OfStack → ((nm : Names) (sp : Spare) (m : Demangler) → Holds nm w N st sp m → R.pop-if K.is-type m ≡ refused 10) × Beyond 64 N w w → TakesSubject (R.subject (E.subject on)) w w N st Popped.Nothing
   unfolding R.subject E.subject
   subject-no-type e g = subst (λ (s : Subject). TakesSubject (R.subject (E.subject s)) w w N st Popped.Nothing) (sym e) g
 
@@ -198,7 +199,7 @@ module _ {w : List ℕ} {N : ℕ} {st : State} {p : ℕ} (on : Constraining w N 
               (less-spare (taken gain (size (t .tree)) (spare 13 1 (size s + 3) 0)) (for-record (for-push (1 + (size s + size (t .tree))) nothing-spare)) (omega arith) (omega arith) (omega arith) (omega arith) (t .holds));
         }
 
-    pair-beyond : {vs : List ℕ} {w₂ : List ℕ} {v : State} → Left w₁ w₂ N u v vs → Beyond w w₂ N
+    pair-beyond : {vs : List ℕ} {w₂ : List ℕ} {v : State} → Left w₁ w₂ N u v vs → Beyond 64 N w w₂
     pair-beyond l = record { past = λ i j. l .keeps .past i j ∙ g .keeps .past i j; long = l .keeps .long ∙ g .keeps .long }
 
   pub conforms : {w₁ w₂ : List ℕ} {u v : State} {q : ℕ} (c : Constraint) → c ≡ Constraint.Conforms → Gives R.protocol 2 w w₁ N st q u → Left w₁ w₂ N u v (pair-record w₁ 13 p q) → Constrains c w w₂ N st p (Step.Done v)
@@ -214,15 +215,15 @@ module _ {w : List ℕ} {N : ℕ} {st : State} {p : ℕ} (on : Constraining w N 
   same-type {w₁} {w₂} {u} {v} c e g l = subst (λ (y : Constraint). Constrains y w w₂ N st p (Step.Done v)) (sym e) (record { ends = λ nm s f a. pair-ends g same-type-two l nm s a; beyond = pair-beyond g l })
 
   -- nothing that is wanted on top
-  pub conforms-not : {w₁ : List ℕ} (c : Constraint) → c ≡ Constraint.Conforms → ((nm : Names) (sp : Spare) (m : Demangler) → Holds nm w N st sp m → R.protocol m ≡ refused 10) × Beyond w w₁ N → Constrains c w w₁ N st p (Step.Refused Refusal.Stack)
+  pub conforms-not : {w₁ : List ℕ} (c : Constraint) → c ≡ Constraint.Conforms → ((nm : Names) (sp : Spare) (m : Demangler) → Holds nm w N st sp m → R.protocol m ≡ refused 10) × Beyond 64 N w w₁ → Constrains c w w₁ N st p (Step.Refused Refusal.Stack)
   unfolding R.requirement E.constraint number
   conforms-not {w₁} c e g = subst (λ (y : Constraint). Constrains y w w₁ N st p (Step.Refused Refusal.Stack)) (sym e) (record { ends = λ nm s f a m h. rw (g .0 nm _ m h) refl; beyond = g .1 })
 
-  pub superclass-not : {w₁ : List ℕ} (c : Constraint) → c ≡ Constraint.Superclass → ((nm : Names) (sp : Spare) (m : Demangler) → Holds nm w N st sp m → R.pop-if K.is-type m ≡ refused 10) × Beyond w w₁ N → Constrains c w w₁ N st p (Step.Refused Refusal.Stack)
+  pub superclass-not : {w₁ : List ℕ} (c : Constraint) → c ≡ Constraint.Superclass → ((nm : Names) (sp : Spare) (m : Demangler) → Holds nm w N st sp m → R.pop-if K.is-type m ≡ refused 10) × Beyond 64 N w w₁ → Constrains c w w₁ N st p (Step.Refused Refusal.Stack)
   unfolding R.requirement E.constraint number
   superclass-not {w₁} c e g = subst (λ (y : Constraint). Constrains y w w₁ N st p (Step.Refused Refusal.Stack)) (sym e) (record { ends = λ nm s f a m h. rw (g .0 nm _ m h) refl; beyond = g .1 })
 
-  pub same-type-not : {w₁ : List ℕ} (c : Constraint) → c ≡ Constraint.SameType → ((nm : Names) (sp : Spare) (m : Demangler) → Holds nm w N st sp m → R.pop-if K.is-type m ≡ refused 10) × Beyond w w₁ N → Constrains c w w₁ N st p (Step.Refused Refusal.Stack)
+  pub same-type-not : {w₁ : List ℕ} (c : Constraint) → c ≡ Constraint.SameType → ((nm : Names) (sp : Spare) (m : Demangler) → Holds nm w N st sp m → R.pop-if K.is-type m ≡ refused 10) × Beyond 64 N w w₁ → Constrains c w w₁ N st p (Step.Refused Refusal.Stack)
   unfolding R.requirement E.constraint number
   same-type-not {w₁} c e g = subst (λ (y : Constraint). Constrains y w w₁ N st p (Step.Refused Refusal.Stack)) (sym e) (record { ends = λ nm s f a m h. rw (g .0 nm _ m h) refl; beyond = g .1 })
 
@@ -264,11 +265,11 @@ module _ {w : List ℕ} {N : ℕ} {st : State} {p : ℕ} (on : Constraining w N 
 pub subject-at : (f : Run Node) {w w′ : List ℕ} {N : ℕ} {st : State} {r : Popped} (p : ℕ) (u : State) → r ≡ Popped.Place p u → TakesSubject f w w′ N st r → GivesSubject f w w′ N st p u
 subject-at f {w} {w′} {N} {st} p u e h = subst (λ (x : Popped). TakesSubject f w w′ N st x) e h
 
-pub subject-not : (f : Run Node) {w w′ : List ℕ} {N : ℕ} {st : State} {r : Popped} → r ≡ Popped.Nothing → TakesSubject f w w′ N st r → ((nm : Names) (sp : Spare) (m : Demangler) → Holds nm w N st sp m → f m ≡ refused 10) × Beyond w w′ N
+pub subject-not : (f : Run Node) {w w′ : List ℕ} {N : ℕ} {st : State} {r : Popped} → r ≡ Popped.Nothing → TakesSubject f w w′ N st r → ((nm : Names) (sp : Spare) (m : Demangler) → Holds nm w N st sp m → f m ≡ refused 10) × Beyond 64 N w w′
 subject-not f {w} {w′} {N} {st} e h = subst (λ (x : Popped). TakesSubject f w w′ N st x) e h
 
 module _ (on : Subject) (c : Constraint) {w w₁ : List ℕ} {N : ℕ} {st : State} where
-  pub required-not : ((nm : Names) (sp : Spare) (m : Demangler) → Holds nm w N st sp m → R.subject (E.subject on) m ≡ refused 10) × Beyond w w₁ N → Operates (required on c) w w₁ N st (Step.Refused Refusal.Stack)
+  pub required-not : ((nm : Names) (sp : Spare) (m : Demangler) → Holds nm w N st sp m → R.subject (E.subject on) m ≡ refused 10) × Beyond 64 N w w₁ → Operates (required on c) w w₁ N st (Step.Refused Refusal.Stack)
   unfolding number
   required-not g = record { runs = λ nm m i h. rw (g .0 nm full-spare m h) refl; past = g .1 .past; long = g .1 .long }
 

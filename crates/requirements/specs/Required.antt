@@ -15,7 +15,8 @@ use Rattle.nodes.specs.declared.Step.the-variants as Step
 use Rattle.records.specs.Lies.{at, Child, Body, Lies}
 use Rattle.records.specs.Holds.{Fixed, Names, Named, Spare, Holds, Ready, Keeps, for-record}
 use Rattle.records.specs.declared.State.{State}
-use Rattle.nodes.specs.Gives.{Performed, most, Beyond, spare, for-nodes}
+use Rattle.budget.specs.Beyond.{Beyond}
+use Rattle.nodes.specs.Gives.{Performed, most, spare, for-nodes}
 use Rattle.records.specs.declared.Popped.{Popped}
 use Rattle.records.specs.declared.Popped.the-variants as Popped
 use Rattle.entity_records.specs.Leaves.{Ends}
@@ -38,7 +39,7 @@ pub record GivesSubject (f : Run Node) (w w′ : List ℕ) (N : ℕ) (st : State
 
 abbrev pub TakesSubject : Run Node → (w w′ : List ℕ) (N : ℕ) (st : State) → Popped → Type 0
 TakesSubject f w w′ N st (Popped.Place p u) = GivesSubject f w w′ N st p u
-TakesSubject f w w′ N st Popped.Nothing = ((nm : Names) (sp : Spare) (m : Demangler) → Holds nm w N st sp m → f m ≡ refused 10) × Beyond w w′ N
+TakesSubject f w w′ N st Popped.Nothing = ((nm : Names) (sp : Spare) (m : Demangler) → Holds nm w N st sp m → f m ≡ refused 10) × Beyond 64 N w w′
 
 -- a member type of a generic parameter was made, of the name that a number stands for
 pub record MakesMember (p : Param) (name : ℕ) (w w′ : List ℕ) (N : ℕ) (st : State) (r : Placed) : Type 0 where
@@ -58,7 +59,7 @@ pub record TwoOver (k : ℕ) (c : Node → Node → Node) : Type 0 where
 -- what a requirement's constraint takes and leaves, whose subject lies at p
 pub record Constrains (constraint : Constraint) (w w′ : List ℕ) (N : ℕ) (st : State) (p : ℕ) (r : Step) : Type 0 where
   pub ends : (nm : Names) (s : Node) → Fixed (nm .fixed) → Lies (Named nm) s w p → Ends (requirement s (E.constraint constraint)) nm (spare 13 1 (size s + 3) 0) w w′ N st r
-  pub beyond : Beyond w w′ N
+  pub beyond : Beyond 64 N w w′
 
 -- a subject lies at p, and there is room for its requirement
 pub record Constraining (w : List ℕ) (N : ℕ) (st : State) (p : ℕ) : Type 0 where

@@ -30,7 +30,7 @@ use Rattle.rows.specs.Table.{kinds, own, counted, row-takes, row-leaves, copies
 use Rattle.shape.specs.Performs.{Light, RowWent, RowRefused, RowTaking, LeftBy, put, Puts, Roomy, Sound}
 use Rattle.stores.specs.Stores.{Wrote, Failed, Performing, Remembered}
 use Rattle.rows.proofs.Rows.{row-is}
-use Rattle.stores.proofs.Stores.{outside-both, outside-none}
+use Rattle.budget.specs.Beyond.{beyond-itself, beyond-both}
 use Rattle.rows.specs.declared.Copies.{Copies}
 use Rattle.rows.specs.declared.Copies.the-variants as Copies
 use Rattle.stores.specs.declared.Step.{Step}
@@ -112,8 +112,8 @@ module _ (N : ℕ) (w : List ℕ) (st : State) {row : ℕ} {a : Taken} {e : Entr
   left-plain w₁ q (Step.Refused x) h = record { is = leave-not q ∙ h .is; outside = h .outside }
 
   pub left-remembered : {w₁ : List ℕ} (w₂ : List ℕ) {s : State} → row-leaves row c .remembered ≡ true → Wrote (M.remember (entry-of e)) N w w₁ st s → (r : Step) → Performing (put N c (entry-of e)) N w₁ w₂ s r → Performing (C.leave N (row-leaves row c) (taken-of a)) N w w₂ st r
-  left-remembered w₂ q g (Step.Done u) h = record { is = leave-too q ∙ (ap (λ (o : Out Shapes Done). and-then o (λ y. put N c (entry-of e))) (g .is) ∙ h .is); outside = outside-both (g .outside) (h .outside) }
-  left-remembered w₂ q g (Step.Refused x) h = record { is = leave-too q ∙ (ap (λ (o : Out Shapes Done). and-then o (λ y. put N c (entry-of e))) (g .is) ∙ h .is); outside = outside-both (g .outside) (h .outside) }
+  left-remembered w₂ q g (Step.Done u) h = record { is = leave-too q ∙ (ap (λ (o : Out Shapes Done). and-then o (λ y. put N c (entry-of e))) (g .is) ∙ h .is); outside = beyond-both (g .outside) (h .outside) }
+  left-remembered w₂ q g (Step.Refused x) h = record { is = leave-too q ∙ (ap (λ (o : Out Shapes Done). and-then o (λ y. put N c (entry-of e))) (g .is) ∙ h .is); outside = beyond-both (g .outside) (h .outside) }
 
 -- WHAT FITS
 pub length-seen : (w : List ℕ) (N n : ℕ) → length (seen-of w N n) ≡ n
@@ -171,7 +171,7 @@ module _ (N : ℕ) (fixed : ℕ → String) (op : Operator) {row : ℕ} (q : row
     performed w₁ {c} p h (Step.Refused x) g = record { is = ap (λ (f : Check Done). f (machine-of w N st)) (row-runs p) ∙ (h .is N (C.leave N (row-leaves row c)) ∙ g .is); outside = g .outside }
 
     pub not-performed : {x : Refusal} → RowRefused w st row x → Failed (C.run-row N (C.row (Enums.operator fixed op))) N w w st x
-    not-performed h = record { is = ap (λ (f : Check Done). f (machine-of w N st)) (row-runs refl) ∙ h .is N (C.leave N (row-leaves row (times-of op))); outside = outside-none }
+    not-performed h = record { is = ap (λ (f : Check Done). f (machine-of w N st)) (row-runs refl) ∙ h .is N (C.leave N (row-leaves row (times-of op))); outside = beyond-itself _ _ }
 
 -- AFTER A MATCH
 pub row-went : (w : List ℕ) (st : State) (row : ℕ) {r : Taking} {b : Taken} {u : State} → r ≡ Taking.Went b u → RowTaking w st row r → RowWent w st row b u
@@ -183,4 +183,4 @@ row-refused w st row q h = subst (RowTaking w st row) q h
 -- NAMES
 pub named : {N : ℕ} {w w₁ w₂ : List ℕ} {st s u : State} (words : ℕ) → Wrote (M.remember (K.entry K.identifier 1 0)) N w w₁ (record { budget = st .budget; depth = st .depth; seen = st .seen; words = words }) s → Wrote (M.push (K.entry K.identifier 1 0)) N w₁ w₂ s u → Wrote (Ch.name N words) N w w₂ st u
 unfolding Ch.name M.know
-named words h g = record { is = ap (λ (o : Out Shapes Done). and-then o (λ y. M.push (K.entry K.identifier 1 0))) (h .is) ∙ g .is; outside = outside-both (h .outside) (g .outside) }
+named words h g = record { is = ap (λ (o : Out Shapes Done). and-then o (λ y. M.push (K.entry K.identifier 1 0))) (h .is) ∙ g .is; outside = beyond-both (h .outside) (g .outside) }

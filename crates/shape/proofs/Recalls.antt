@@ -21,7 +21,7 @@ use Rattle.definition.specs.Enums.{number}
 use Rattle.definition.specs.declared.Refusal.the-variants.{Spelling}
 use Rattle.stores.specs.Stores.{Performing, Failed}
 use Rattle.shape.specs.Performs.{Sound, recall-copies}
-use Rattle.stores.proofs.Stores.{outside-none}
+use Rattle.budget.specs.Beyond.{beyond-itself}
 use Rattle.shape.proofs.Leaves.{length-seen}
 use Rattle.stores.specs.declared.Step.{Step}
 use Rattle.stores.specs.declared.Step.the-variants as Step
@@ -66,7 +66,7 @@ module _ (N : ℕ) (w : List ℕ) (st : State) (times i : ℕ) where
   unfolding M.recall number
   not-recalled h = record {
     is = ap (λ (o : Option K.Entry). and-then (given o (refused 9) (λ n. ok n (machine-of w N st))) (λ e. C.copied N times e)) (get-past (seen-of w N (st .seen)) i (omega (arith, length-seen w N (st .seen))));
-    outside = outside-none;
+    outside = beyond-itself _ _;
   }
 
   recalls-it : (e : Entry) → i < st .seen → entry-of e ≡ entry-at w (N + i) → recall-copies N times i (machine-of w N st) ≡ C.copied N times (entry-of e) (machine-of w N st)

@@ -2,7 +2,7 @@
 use mathlib.Core.Path.{_≡_, refl, sym, ap, _∙_}
 use mathlib.Core.Bool.{Bool, true, false}
 use mathlib.Core.List.{List}
-use Prim.Native.Nat.{ℕ, _+_, _*_, _-_, _≤_}
+use Prim.Native.Nat.{ℕ, _+_, _*_, _≤_}
 use native.Mathlib.Omega.{arith}
 use native.Mathlib.Nat.{le-trans, le-of-eq, one-mul, mul-le-mul-right}
 use borrow.Author.Tests.{leb-true}
@@ -20,7 +20,7 @@ use Rattle.entries.specs.Lies.{machine-of, entry-of}
 use Rattle.entries.specs.declared.Entry.{Entry}
 use Rattle.entries.specs.declared.State.{State}
 use Rattle.stores.specs.Stores.{Wrote, Failed}
-use Rattle.stores.proofs.Stores.{outside-none}
+use Rattle.budget.specs.Beyond.{beyond-itself}
 
 -- COPIES
 -- a charge that went leaves room for what was charged
@@ -42,4 +42,4 @@ module _ {N : ℕ} {w w₁ : List ℕ} (st : State) (e : Entry) (times : ℕ) wh
 
 pub copied-refused : {N : ℕ} {w : List ℕ} (st : State) (e : Entry) (times : ℕ) (r : Refusal) → B.charge N (e .size * times) (budget-of (st .budget)) ≡ refused (number r) → Failed (C.copied N times (entry-of e)) N w w st r
 unfolding C.copied spend
-copied-refused {N} {w} st e times r q = record { is = ap (λ (o : Out B.Budget Done). and-then (spent o (machine-of w N st)) (λ x. M.push-copies times (entry-of e))) q; outside = outside-none }
+copied-refused {N} {w} st e times r q = record { is = ap (λ (o : Out B.Budget Done). and-then (spent o (machine-of w N st)) (λ x. M.push-copies times (entry-of e))) q; outside = beyond-itself _ _ }

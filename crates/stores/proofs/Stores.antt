@@ -1,7 +1,7 @@
 -- The machine in a workspace that was written. Assumes nothing.
 use mathlib.Core.Path.{_≡_, refl, sym, ap, _∙_}
 use mathlib.Core.List.{List, [], _∷_, _++_}
-use Prim.Native.Nat.{ℕ, zero, suc, _+_, _*_, _-_, _≤_, _<_}
+use Prim.Native.Nat.{ℕ, zero, suc, _+_, _*_, _≤_, _<_}
 use native.Mathlib.Omega.{arith}
 use native.Mathlib.Numerals.{add-one}
 use lib.ListN.{length, getD, set, length-set, replicate}
@@ -16,7 +16,8 @@ use Rattle.budget.specs.declared.Budget.{Budget}
 use Rattle.entries.specs.Lies.{stack-of, seen-of, entry-of, entry-at}
 use Rattle.entries.specs.declared.Entry.{Entry}
 use Rattle.entries.specs.declared.State.{State}
-use Rattle.stores.specs.Stores.{Stored, Outside, Wrote}
+use Rattle.budget.specs.Beyond.{Beyond}
+use Rattle.stores.specs.Stores.{Stored, Wrote}
 
 entry-same : {a b d a₁ b₁ d₁ : ℕ} → a ≡ a₁ → b ≡ b₁ → d ≡ d₁ → K.entry a b d ≡ K.entry a₁ b₁ d₁
 entry-same {a} {b} {d} {a₁} {b₁} {d₁} p q r = ap (λ (x : ℕ). K.entry x b d) p ∙ (ap (λ (x : ℕ). K.entry a₁ x d) q ∙ ap (λ (x : ℕ). K.entry a₁ b₁ x) r)
@@ -60,12 +61,6 @@ module _ (w w₁ : List ℕ) where
 machine-same : {b : B.Budget} {s s₁ r r₁ : List K.Entry} {n : ℕ} → s ≡ s₁ → r ≡ r₁ → _≡_ {A = Shapes} (M.machine b s r n) (M.machine b s₁ r₁ n)
 machine-same {b} {s} {s₁} {r} {r₁} {n} p q = ap (λ (x : List K.Entry). M.machine b x r n) p ∙ ap (λ (x : List K.Entry). M.machine b s₁ x n) q
 
-pub outside-both : {N : ℕ} {w w₁ w₂ : List ℕ} → Outside N w w₁ → Outside N w₁ w₂ → Outside N w w₂
-outside-both h g = record { long = g .long ∙ h .long; past = λ k p. g .past k p ∙ h .past k p }
-
-pub outside-none : {N : ℕ} {w : List ℕ} → Outside N w w
-outside-none = record { long = refl; past = λ k p. refl }
-
 -- one more on the stack
 module _ {N : ℕ} {w w₁ : List ℕ} (st : State) {e : Entry} (h : Stored w w₁ (st .depth) e) (room : st .depth < N) where
   on-top : stack-of w₁ (st .depth + 1) ≡ entry-of e ∷ stack-of w (st .depth)
@@ -74,7 +69,7 @@ module _ {N : ℕ} {w w₁ : List ℕ} (st : State) {e : Entry} (h : Stored w w�
       ap (stack-of w₁) (add-one (st .depth)) ∙ (ap (λ (x : K.Entry). x ∷ stack-of w₁ (st .depth)) (h .there)
       ∙ ap (λ (l : List K.Entry). entry-of e ∷ l) (stack-same w w₁ (st .depth) (h .below)))
 
-  pub push-outside : Outside N w w₁
+  pub push-outside : Beyond 8 N w w₁
   push-outside = record { long = h .long; past = λ k p. h .above k (omega arith) }
 
   pub pushed : Wrote (M.push (entry-of e)) N w w₁ st (record { budget = st .budget; depth = st .depth + 1; seen = st .seen; words = st .words })

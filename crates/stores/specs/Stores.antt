@@ -7,6 +7,7 @@ use Rattle.definition.specs.Base.{ok, refused, Done}
 use Rattle.definition.specs.Shape.{Check}
 use Rattle.definition.specs.Enums.{number}
 use Rattle.definition.specs.declared.Refusal.{Refusal}
+use Rattle.budget.specs.Beyond.{Beyond}
 use Rattle.entries.specs.Lies.{machine-of, entry-of, entry-at}
 use Rattle.entries.specs.declared.Entry.{Entry}
 use Rattle.entries.specs.declared.State.{State}
@@ -21,19 +22,14 @@ pub record Stored (w w₁ : List ℕ) (i : ℕ) (e : Entry) : Type 0 where
   pub below : (k : ℕ) → k < 3 * i → getD w₁ k 0 ≡ getD w k 0
   pub above : (k : ℕ) → 3 * i + 3 ≤ k → getD w₁ k 0 ≡ getD w k 0
 
--- the workspace is as long as it was, and past its 8 × N numbers it is as it was
-pub record Outside (N : ℕ) (w w₁ : List ℕ) : Type 0 where
-  pub long : length w₁ ≡ length w
-  pub past : (k : ℕ) → 8 * N ≤ k → getD w₁ k 0 ≡ getD w k 0
-
 -- the step comes to the machine of u in the workspace w₁
 pub record Wrote (f : Check Done) (N : ℕ) (w w₁ : List ℕ) (st u : State) : Type 0 where
   pub is : f (machine-of w N st) ≡ ok tt (machine-of w₁ N u)
-  pub outside : Outside N w w₁
+  pub outside : Beyond 8 N w w₁
 
 pub record Failed (f : Check Done) (N : ℕ) (w w₁ : List ℕ) (st : State) (r : Refusal) : Type 0 where
   pub is : f (machine-of w N st) ≡ refused (number r)
-  pub outside : Outside N w w₁
+  pub outside : Beyond 8 N w w₁
 
 abbrev pub Performing : Check Done → (N : ℕ) → (w w₁ : List ℕ) → State → Step → Type 0
 Performing f N w w₁ st (Step.Done u) = Wrote f N w w₁ st u

@@ -19,7 +19,8 @@ use Rattle.records.specs.Holds.{Names, Named, Stack, stack-base, Spare, Holds, 
 use Rattle.records.specs.declared.State.{State}
 use Rattle.nodes.specs.declared.Marked.{Marked}
 use Rattle.nodes.specs.declared.Step.the-variants as Step
-use Rattle.nodes.specs.Gives.{nothing-spare, full-spare, taken, low-half, high-half, Gives, Marks, Operates, Left, Kept, Beyond}
+use Rattle.budget.specs.Beyond.{Beyond}
+use Rattle.nodes.specs.Gives.{nothing-spare, full-spare, taken, low-half, high-half, Gives, Marks, Operates, Left, Kept}
 use Rattle.nodes.proofs.Making.{halves}
 use Rattle.nodes.proofs.Taking.{less-spare, keeps-itself}
 use Rattle.cells.specs.Cells.{grown, Listed, Gathering}
@@ -52,7 +53,7 @@ pub collected : (loop : Loop) {w w′ : List ℕ} {N : ℕ} {st : State} {r : Li
 collected loop {w} {w′} {N} {st} l u e h = subst (λ (x : Listing). Collects loop w w′ N st x) e h
 
 pub not-collected : (loop : Loop) {w w′ : List ℕ} {N : ℕ} {st : State} {r : Listing} → r ≡ Listing.Nothing → Collects loop w w′ N st r →
-    ((nm : Names) (sp : Spare) (m : Demangler) (f : ℕ) → st .depth < f → Holds nm w N st sp m → loop f nil m ≡ refused 10) × Beyond w w′ N
+    ((nm : Names) (sp : Spare) (m : Demangler) (f : ℕ) → st .depth < f → Holds nm w N st sp m → loop f nil m ≡ refused 10) × Beyond 64 N w w′
 not-collected loop {w} {w′} {N} {st} e h = subst (λ (x : Listing). Collects loop w w′ N st x) e h
 
 -- TUPLES AND LISTS OF PROTOCOLS
@@ -101,7 +102,7 @@ module _ {k : ℕ} {c : Nodes → Node} (o : ListNode k c) where
     long = d .keeps .long ∙ b .keeps .long;
   }
 
-  pub list-refused : {w w₁ : List ℕ} {N : ℕ} {st : State} {r : Marked} (loop : Loop) → r .taken ≡ false → Marks (R.took K.empty-list) w N st r → ((nm : Names) (sp : Spare) (m : Demangler) (f : ℕ) → r .next .depth < f → Holds nm w N (r .next) sp m → loop f nil m ≡ refused 10) × Beyond w w₁ N →
+  pub list-refused : {w w₁ : List ℕ} {N : ℕ} {st : State} {r : Marked} (loop : Loop) → r .taken ≡ false → Marks (R.took K.empty-list) w N st r → ((nm : Names) (sp : Spare) (m : Demangler) (f : ℕ) → r .next .depth < f → Holds nm w N (r .next) sp m → loop f nil m ≡ refused 10) × Beyond 64 N w w₁ →
       Operates (delimited loop c) w w₁ N st (Step.Refused Refusal.Stack)
   unfolding M.rounds E.number
   list-refused {w} {w₁} {N} {st} {r} loop e a b = record {
@@ -160,7 +161,7 @@ applied-baseless c g = record {
   long = c .keeps .long;
 }
 
-pub applied-refused : {w w₁ : List ℕ} {N : ℕ} {st : State} → ((nm : Names) (sp : Spare) (m : Demangler) (f : ℕ) → st .depth < f → Holds nm w N st sp m → R.arguments f nil m ≡ refused 10) × Beyond w w₁ N → Operates applied w w₁ N st (Step.Refused Refusal.Stack)
+pub applied-refused : {w w₁ : List ℕ} {N : ℕ} {st : State} → ((nm : Names) (sp : Spare) (m : Demangler) (f : ℕ) → st .depth < f → Holds nm w N st sp m → R.arguments f nil m ≡ refused 10) × Beyond 64 N w w₁ → Operates applied w w₁ N st (Step.Refused Refusal.Stack)
 unfolding M.rounds E.number
 applied-refused c = record {
   runs = λ nm m i h. rw (c .0 nm full-spare m (suc (length (m .stack))) (omega (arith, stack-depth h)) h) refl;
@@ -192,7 +193,7 @@ signature-done {w} {w₁} {w₂} {N} {st} {u} {v} {l} params a b ea eb c d = rec
   long = d .keeps .long ∙ c .keeps .long;
 }
 
-pub signature-refused : {w w₁ : List ℕ} {N : ℕ} {st : State} (params : ℕ) → ((nm : Names) (sp : Spare) (m : Demangler) (f : ℕ) → st .depth < f → Holds nm w N st sp m → R.requirements f nil m ≡ refused 10) × Beyond w w₁ N →
+pub signature-refused : {w w₁ : List ℕ} {N : ℕ} {st : State} (params : ℕ) → ((nm : Names) (sp : Spare) (m : Demangler) (f : ℕ) → st .depth < f → Holds nm w N st sp m → R.requirements f nil m ≡ refused 10) × Beyond 64 N w w₁ →
     Operates (λ _. R.generic-signature params) w w₁ N st (Step.Refused Refusal.Stack)
 unfolding R.generic-signature M.rounds E.number
 signature-refused params c = record {

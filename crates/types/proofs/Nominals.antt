@@ -17,7 +17,8 @@ use Rattle.records.specs.declared.State.{State}
 use Rattle.nodes.specs.declared.Step.the-variants as Step
 use Rattle.nodes.specs.declared.NameTaken.{NameTaken}
 use Rattle.nodes.specs.declared.NameTaken.the-variants as NameTaken
-use Rattle.nodes.specs.Gives.{nothing-spare, full-spare, taken, Given, Gives, GivenName, GivesName, TakesName, Operates, Kept, Beyond}
+use Rattle.budget.specs.Beyond.{Beyond}
+use Rattle.nodes.specs.Gives.{nothing-spare, full-spare, taken, Given, Gives, GivenName, GivesName, TakesName, Operates, Kept}
 use Rattle.nodes.proofs.Contexts.{context-kind}
 use Rattle.nodes.proofs.Taking.{less-spare}
 
@@ -51,7 +52,7 @@ pub nominal-nameless : {w : List ℕ} {N : ℕ} {st : State} (k : NominalKind) �
 unfolding R.nominal E.number
 nominal-nameless k a = record { runs = λ nm m i h. rw (a nm full-spare m h) refl; past = λ i l. refl; long = refl }
 
-pub nominal-homeless : {w w₁ : List ℕ} {N : ℕ} {st u : State} (k : NominalKind) (name : ℕ) → GivesName R.pop-name w N st name u → ((nm : Names) (sp : Spare) (m : Demangler) → Holds nm w N u sp m → R.context m ≡ refused 10) × Beyond w w₁ N → Operates (λ _. R.nominal k) w w₁ N st (Step.Refused Refusal.Stack)
+pub nominal-homeless : {w w₁ : List ℕ} {N : ℕ} {st u : State} (k : NominalKind) (name : ℕ) → GivesName R.pop-name w N st name u → ((nm : Names) (sp : Spare) (m : Demangler) → Holds nm w N u sp m → R.context m ≡ refused 10) × Beyond 64 N w w₁ → Operates (λ _. R.nominal k) w w₁ N st (Step.Refused Refusal.Stack)
 unfolding R.nominal E.number
 nominal-homeless {w} {w₁} {N} {st} {u} k name a b = record {
   runs = λ nm m i h.

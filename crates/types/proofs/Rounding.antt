@@ -14,10 +14,11 @@ use Rattle.definition.specs.Perform.{Demangler, Run}
 use Rattle.records.specs.Lies.{absent}
 use Rattle.records.specs.Holds.{Names, Spare, Holds, Keeps}
 use Rattle.records.specs.declared.State.{State}
-use Rattle.nodes.specs.Gives.{taken, Gives, GivesIf, Marks, Beyond}
+use Rattle.budget.specs.Beyond.{Beyond, beyond-itself}
+use Rattle.nodes.specs.Gives.{taken, Gives, GivesIf, Marks}
 use Rattle.nodes.specs.declared.Marked.{Marked}
 use Rattle.nodes.proofs.Leaving.{keeps-then}
-use Rattle.nodes.proofs.Taking.{less-spare, keeps-itself, beyond-itself}
+use Rattle.nodes.proofs.Taking.{less-spare, keeps-itself}
 use Rattle.cells.specs.Cells.{grown, Listed, Adds, Labels}
 use Rattle.types.specs.Lists.{Loop, Went, Turns}
 use Rattle.cells.specs.declared.Chain.{Chain}
@@ -65,7 +66,7 @@ module _ {w w′ : List ℕ} {N : ℕ} {st : State} {first variadic : Marked} {n
 
 module _ {w : List ℕ} {N : ℕ} {st : State} {first variadic : Marked} {named : LabelTaken} where
   pub element-refused : Marks (R.took K.first-element-marker) w N st first → Marks (R.took K.variadic-marker) w N (first .next) variadic → Labels w N (variadic .next) named → ((nm : Names) (sp : Spare) (m : Demangler) → Holds nm w N (named .next) sp m → R.pop-if K.is-type m ≡ refused 10) →
-      ((nm : Names) (sp : Spare) (m : Demangler) (ns : Nodes) (f : ℕ) → Holds nm w N st sp m → R.elements (suc f) ns m ≡ refused 10) × Beyond w w N
+      ((nm : Names) (sp : Spare) (m : Demangler) (ns : Nodes) (f : ℕ) → Holds nm w N st sp m → R.elements (suc f) ns m ≡ refused 10) × Beyond 64 N w w
   unfolding R.elements
   element-refused a b c d = (
     λ nm sp m ns f h.
@@ -97,8 +98,8 @@ module _ {w w₁ : List ℕ} {N : ℕ} {st : State} {first : Marked} where
         omega (arith, a .deep, d .deep, q .depth),
       )
 
-  pub member-refused : Marks (R.took K.first-element-marker) w N st first → ((nm : Names) (sp : Spare) (m : Demangler) → Holds nm w N (first .next) sp m → R.protocol m ≡ refused 10) × Beyond w w₁ N →
-      ((nm : Names) (sp : Spare) (m : Demangler) (ns : Nodes) (f : ℕ) → Holds nm w N st sp m → R.members (suc f) ns m ≡ refused 10) × Beyond w w₁ N
+  pub member-refused : Marks (R.took K.first-element-marker) w N st first → ((nm : Names) (sp : Spare) (m : Demangler) → Holds nm w N (first .next) sp m → R.protocol m ≡ refused 10) × Beyond 64 N w w₁ →
+      ((nm : Names) (sp : Spare) (m : Demangler) (ns : Nodes) (f : ℕ) → Holds nm w N st sp m → R.members (suc f) ns m ≡ refused 10) × Beyond 64 N w w₁
   unfolding R.members
   member-refused a d = (
     λ nm sp m ns f h.
@@ -180,7 +181,7 @@ module _ {w : List ℕ} {N : ℕ} {st : State} {opened : Marked} (none-there : M
   )
 
   pub argument-refused : opened .taken ≡ false → ((nm : Names) (sp : Spare) (m : Demangler) → Holds nm w N (opened .next) sp m → R.pop-if (eqb K.first-element-marker) m ≡ refused 10) →
-      ((nm : Names) (sp : Spare) (m : Demangler) (ns : Nodes) (f : ℕ) → Holds nm w N st sp m → R.arguments (suc f) ns m ≡ refused 10) × Beyond w w N
+      ((nm : Names) (sp : Spare) (m : Demangler) (ns : Nodes) (f : ℕ) → Holds nm w N st sp m → R.arguments (suc f) ns m ≡ refused 10) × Beyond 64 N w w
   unfolding R.arguments
   argument-refused e d = (
     λ nm sp m ns f h.

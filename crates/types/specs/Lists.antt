@@ -11,7 +11,8 @@ use Rattle.definition.specs.Kind as K
 use Rattle.records.specs.Lies.{Cells, Body}
 use Rattle.records.specs.Holds.{Names, Named, Spare, Holds, Keeps}
 use Rattle.records.specs.declared.State.{State}
-use Rattle.nodes.specs.Gives.{Performed, Beyond}
+use Rattle.budget.specs.Beyond.{Beyond}
+use Rattle.nodes.specs.Gives.{Performed}
 use Rattle.cells.specs.declared.Chain.{Chain}
 use Rattle.types.specs.declared.Round.{Round}
 use Rattle.types.specs.declared.Round.the-variants as Round
@@ -42,7 +43,7 @@ pub record Turns (loop next : Loop) (w w′ : List ℕ) (N : ℕ) (st : State) (
 abbrev pub Rounds : Loop → (w w′ : List ℕ) (N : ℕ) (st : State) (l : Chain) → Round → Type 0
 Rounds loop w w′ N st l (Round.More l′ u) = Turns loop loop w w′ N st l l′ u × (u .depth < st .depth)
 Rounds loop w w′ N st l (Round.Last l′ u) = Turns loop (λ f. ret) w w′ N st l l′ u
-Rounds loop w w′ N st l Round.Refused = ((nm : Names) (sp : Spare) (m : Demangler) (ns : Nodes) (f : ℕ) → Holds nm w N st sp m → loop (suc f) ns m ≡ refused 10) × Beyond w w′ N
+Rounds loop w w′ N st l Round.Refused = ((nm : Names) (sp : Spare) (m : Demangler) (ns : Nodes) (f : ℕ) → Holds nm w N st sp m → loop (suc f) ns m ≡ refused 10) × Beyond 64 N w w′
 
 -- the whole list: a loop that may have more rounds than there are nodes on the stack
 pub record Collected (loop : Loop) (w w′ : List ℕ) (N : ℕ) (st : State) (l : Chain) (u : State) : Type 0 where
@@ -52,7 +53,7 @@ pub record Collected (loop : Loop) (w w′ : List ℕ) (N : ℕ) (st : State) (l
 
 abbrev pub Collects : Loop → (w w′ : List ℕ) (N : ℕ) (st : State) → Listing → Type 0
 Collects loop w w′ N st (Listing.Cells l u) = Collected loop w w′ N st l u
-Collects loop w w′ N st Listing.Nothing = ((nm : Names) (sp : Spare) (m : Demangler) (f : ℕ) → st .depth < f → Holds nm w N st sp m → loop f nil m ≡ refused 10) × Beyond w w′ N
+Collects loop w w′ N st Listing.Nothing = ((nm : Names) (sp : Spare) (m : Demangler) (f : ℕ) → st .depth < f → Holds nm w N st sp m → loop f nil m ≡ refused 10) × Beyond 64 N w w′
 
 abbrev pub loop-of : Lists → Loop
 loop-of Lists.Elements = R.elements

@@ -1,7 +1,7 @@
 -- Witnesses and associated conformances.
 use mathlib.Core.Path.{_≡_, refl, _∙_, subst}
 use mathlib.Core.List.{List, [], _∷_}
-use Prim.Native.Nat.{ℕ, _+_, _-_, _≤_, _<_}
+use Prim.Native.Nat.{ℕ, _+_, _≤_, _<_}
 use native.Mathlib.Omega.{arith}
 use Rattle.definition.specs.Base.{bytes, refused}
 use Rattle.definition.specs.Enums.{number}
@@ -17,7 +17,8 @@ use Rattle.records.specs.Holds.{Fixed, Names, Named, Spare, Holds, Ready, Keeps
 use Rattle.records.specs.declared.State.{State}
 use Rattle.nodes.specs.declared.Marked.{Marked}
 use Rattle.nodes.specs.declared.Step.the-variants as Step
-use Rattle.nodes.specs.Gives.{nothing-spare, full-spare, taken, for-nodes, Given, Gives, GivenName, GivesName, Marks, Building, Left, Operates, Beyond}
+use Rattle.budget.specs.Beyond.{Beyond}
+use Rattle.nodes.specs.Gives.{nothing-spare, full-spare, taken, for-nodes, Given, Gives, GivenName, GivesName, Marks, Building, Left, Operates}
 use Rattle.nodes.proofs.Taking.{less-spare}
 use Rattle.nodes.proofs.Leaving.{keeps-then, beyond-then}
 use Rattle.record_parts.specs.Parts.{Qualifier, Qualifies}
@@ -54,7 +55,7 @@ lazy-first name r a = record { runs = λ nm m i h. rw (a .0 nm full-spare m h) r
 pub lazy-second : {w w₁ w₂ : List ℕ} {N : ℕ} {st u : State} {c : ℕ} (name : ℕ) → Building R.conformance 1 4 w w₁ N st c u → Not (R.pop-if K.is-type) 10 w₁ w₂ N u → Operates (λ s. R.lazy-witness (bytes (s name))) w w₂ N st (Step.Refused Refusal.Stack)
 unfolding R.lazy-witness number
 lazy-second name a b =
-    let e : Beyond _ _ _ = beyond-then (a .keeps) (b .1) in
+    let e : Beyond 64 _ _ _ = beyond-then (a .keeps) (b .1) in
     record { runs = λ nm m i h. let c = a .gives nm but-one m h in rw (c .is, b .0 nm (taken 4 (size (c .tree)) but-one) (c .machine) (c .holds)) refl; past = e .past; long = e .long }
 
 -- `TW`
@@ -93,7 +94,7 @@ witness-first a = record { runs = λ nm m i h. rw (a .0 nm full-spare m h) refl;
 pub witness-second : {w w₁ w₂ : List ℕ} {N : ℕ} {st u : State} {p : ℕ} (r : Refusal) → Gives (R.pop-if K.is-entity) 3 w w₁ N st p u → Not R.conformance (number r) w₁ w₂ N u → Operates (λ _. R.protocol-witness) w w₂ N st (Step.Refused r)
 unfolding R.protocol-witness
 witness-second r a b =
-    let e : Beyond _ _ _ = beyond-then (a .keeps) (b .1) in
+    let e : Beyond 64 _ _ _ = beyond-then (a .keeps) (b .1) in
     record { runs = λ nm m i h. let c = a .gives nm full-spare m h in rw (c .is, b .0 nm (taken 3 (size (c .tree)) full-spare) (c .machine) (c .holds)) refl; past = e .past; long = e .long }
 
 -- the entity's size, behind the conformance
@@ -151,7 +152,7 @@ module _ {w w₁ w₂ : List ℕ} {N : ℕ} {st u : State} {required : ℕ} {k :
     pub conforming-no-type : {w₃ : List ℕ} → Not (R.pop-if K.is-type) 10 w₂ w₃ N v → Operates (λ _. R.associated-conformance) w w₃ N st (Step.Refused Refusal.Stack)
     unfolding R.associated-conformance number
     conforming-no-type e =
-        let past : Beyond _ _ _ = beyond-then required-keeps (e .1) in
+        let past : Beyond 64 _ _ _ = beyond-then required-keeps (e .1) in
         record {
           runs = λ nm m i h.
               let f₁ = a .gives nm full-spare m h in

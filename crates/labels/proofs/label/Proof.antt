@@ -1,6 +1,7 @@
 use mathlib.Core.Path.{refl, sym, _∙_}
 use native.Mathlib.Omega.{arith}
-use Rattle.nodes.proofs.Taking.{place-inside, took-below, popped, popped-nothing, beyond-itself}
+use Rattle.budget.specs.Beyond.{beyond-itself}
+use Rattle.nodes.proofs.Taking.{place-inside, took-below, popped, popped-nothing}
 use Rattle.nodes.proofs.Contexts.{took-room}
 use Rattle.labels.proofs.LabelLists.{cell-named, cell-bare, no-label, label-empty}
 use borrow.Author.Needs.{needs}

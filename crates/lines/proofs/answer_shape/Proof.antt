@@ -46,7 +46,7 @@ same-length-2 c = search needs
 
 -- src/lib.rt:56:1
 returns : tie.Need-returns
-returns c = (shape-accepted (shape-is (c .before .before .before .before .before .before .before .before .before .shape .result) (now (c .before .before .before .before .before .before .before .before .before .before .before .before .before .before .args .line)) (c .before .before .before .before .before .before .before .before .before .before .before .before .before .before .pre .0) (c .before .before .before .before .before .before .before .before .before .shape .ensures .0)) (c .before .before .before .before .before .counts .given .1) (c .before .before .put-counts .ensures), c .before .before .before .before .before .before .before .before .before .shape .ensures .1 .long ∙ c .before .before .before .before .before .before .before .before .before .before .before .before .before .before .pre .0)
+returns c = (shape-accepted (shape-is (c .before .before .before .before .before .before .before .before .before .shape .result) (now (c .before .before .before .before .before .before .before .before .before .before .before .before .before .before .args .line)) (c .before .before .before .before .before .before .before .before .before .before .before .before .before .before .pre .0) (c .before .before .before .before .before .before .before .before .before .shape .ensures .0)) (c .before .before .before .before .before .counts .given .1) (c .before .before .put-counts .ensures), c .before .before .before .before .before .before .before .before .before .shape .ensures .1 .beyond .long ∙ c .before .before .before .before .before .before .before .before .before .before .before .before .before .before .pre .0)
 
 -- src/lib.rt:56:1
 same-length-3 : tie.Need-same-length-3
@@ -58,7 +58,7 @@ same-length-4 c = search needs
 
 -- src/lib.rt:56:1
 returns-2 : tie.Need-returns-2
-returns-2 c = (shape-refused (shape-is (c .before .before .before .before .before .before .before .before .before .before .shape .result) (now (c .before .before .before .before .before .before .before .before .before .before .before .before .before .before .before .args .line)) (c .before .before .before .before .before .before .before .before .before .before .before .before .before .before .before .pre .0) (c .before .before .before .before .before .before .before .before .before .before .shape .ensures .0)) (c .before .before .before .before .before .before .refusal .given .1) (c .before .before .before .number .ensures) (c .before .before .put-refusal .ensures), c .before .before .before .before .before .before .before .before .before .before .shape .ensures .1 .long ∙ c .before .before .before .before .before .before .before .before .before .before .before .before .before .before .before .pre .0)
+returns-2 c = (shape-refused (shape-is (c .before .before .before .before .before .before .before .before .before .before .shape .result) (now (c .before .before .before .before .before .before .before .before .before .before .before .before .before .before .before .args .line)) (c .before .before .before .before .before .before .before .before .before .before .before .before .before .before .before .pre .0) (c .before .before .before .before .before .before .before .before .before .before .shape .ensures .0)) (c .before .before .before .before .before .before .refusal .given .1) (c .before .before .before .number .ensures) (c .before .before .put-refusal .ensures), c .before .before .before .before .before .before .before .before .before .before .shape .ensures .1 .beyond .long ∙ c .before .before .before .before .before .before .before .before .before .before .before .before .before .before .before .pre .0)
 
 pub answer-shape-spec : {M : Type 1} → statement M
 answer-shape-spec =

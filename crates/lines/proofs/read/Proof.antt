@@ -38,7 +38,7 @@ same-length-2 c = search needs
 
 -- src/lib.rt:31:1
 returns : tie.Need-returns
-returns c = (read-part {o = now (c .before .before .before .before .before .before .before .before .before .before .args .out)} {at = c .before .before .before .before .before .before .before .before .before .before .args .at} (now (c .before .before .before .before .before .before .before .before .before .before .args .line)) (c .before .before .before .before .before .before .before .before .before .before .pre .1) (c .before .before .before .before .before .before .before .before .before .before .pre .0) refl (c .before .before .before .before .demangle .ensures .0) (put-back (now (c .before .before .before .before .before .before .before .before .before .before .args .out)) (c .before .before .before .before .demangle .last .1 .1 .1 .0) (c .before .before .before .before .before .before .before .before .before .before .args .at)), c .before .before .before .before .demangle .ensures .1 .long ∙ c .before .before .before .before .before .before .before .before .before .before .pre .0)
+returns c = (read-part {o = now (c .before .before .before .before .before .before .before .before .before .before .args .out)} {at = c .before .before .before .before .before .before .before .before .before .before .args .at} (now (c .before .before .before .before .before .before .before .before .before .before .args .line)) (c .before .before .before .before .before .before .before .before .before .before .pre .1) (c .before .before .before .before .before .before .before .before .before .before .pre .0) refl (c .before .before .before .before .demangle .ensures .0) (put-back (now (c .before .before .before .before .before .before .before .before .before .before .args .out)) (c .before .before .before .before .demangle .last .1 .1 .1 .0) (c .before .before .before .before .before .before .before .before .before .before .args .at)), c .before .before .before .before .demangle .ensures .1 .beyond .long ∙ c .before .before .before .before .before .before .before .before .before .before .pre .0)
 
 pub read-spec : {M : Type 1} → statement M
 read-spec =

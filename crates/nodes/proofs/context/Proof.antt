@@ -2,7 +2,8 @@ use mathlib.Core.Path.{sym, ap, _∙_}
 use native.Mathlib.Omega.{arith}
 use borrow.Author.Tests.{eq-eqb, ne-eqb}
 use Rattle.definition.specs.Kind as K
-use Rattle.nodes.proofs.Taking.{place-inside, beyond-itself, took-below, popped, popped-nothing}
+use Rattle.budget.specs.Beyond.{beyond-itself}
+use Rattle.nodes.proofs.Taking.{place-inside, took-below, popped, popped-nothing}
 use Rattle.nodes.proofs.Contexts.{took-room, context-direct, context-refused, context-module, context-empty}
 use borrow.Author.Needs.{needs}
 use Rattle.nodes.proofs.context.Statement.{statement}

@@ -1,7 +1,8 @@
 use mathlib.Core.Path.{sym, ap, _∙_}
 use native.Mathlib.Omega.{arith}
 use Rattle.kinds.specs.Wanted.{want-of}
-use Rattle.nodes.proofs.Taking.{place-inside, beyond-itself, took-below, popped, popped-nothing, pop-if-gives, pop-if-refused, pop-if-empty, try-gives, try-leaves, try-empty}
+use Rattle.budget.specs.Beyond.{beyond-itself}
+use Rattle.nodes.proofs.Taking.{place-inside, took-below, popped, popped-nothing, pop-if-gives, pop-if-refused, pop-if-empty, try-gives, try-leaves, try-empty}
 use borrow.Author.Needs.{needs}
 use Rattle.nodes.proofs.pop_if.Statement.{statement}
 use Rattle.nodes.proofs.pop_if.Tie as tie

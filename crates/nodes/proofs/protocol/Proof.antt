@@ -4,7 +4,8 @@ use native.Mathlib.Omega.{arith}
 use lib.Dec.{eqb}
 use borrow.Author.Tests.{ne-eqb}
 use Rattle.definition.specs.Perform as R
-use Rattle.nodes.proofs.Taking.{place-inside, beyond-itself, took-below, popped, popped-nothing}
+use Rattle.budget.specs.Beyond.{beyond-itself}
+use Rattle.nodes.proofs.Taking.{place-inside, took-below, popped, popped-nothing}
 use Rattle.nodes.proofs.OneChilds.{taken-place, taken-nothing, taken-not}
 use Rattle.nodes.proofs.Ready.{after-popped, after-given, ready-none, room, inside-record, small-place}
 use Rattle.nodes.proofs.Protocols.{protocol-direct, protocol-member, protocol-several, protocol-named, protocol-not-named, protocol-other, protocol-empty, member-inside}

@@ -36,7 +36,7 @@ same-length c = search needs
 
 -- src/lib.rt:63:1
 returns : tie.Need-returns
-returns c = (entered-values (c .before .before .before .before .before .before .before .before .before .before .args .what) 8 (c .before .before .before .before .before .before .before .before .before .before .args .ceiling) (length (c .before .before .before .before .before .before .before .before .before .before .args .workspace .now)) (c .before .before .before .before .before .before .before .before .before .before .args .text .now) (Check.whole (c .before .before .before .before .before .before .before .before .before .before .args .ceiling) (kinds-of (c .before .before .before .before .before .before .before .before .before .before .args .what))) (c .before .before .check-body .result) ((was-body (c .before .before .before .before .before .before .before .before .before .before .args .what) 8 (c .before .before .before .before .before .before .before .before .before .before .args .ceiling) (length (c .before .before .before .before .before .before .before .before .before .before .args .workspace .now)) (c .before .before .before .before .before .before .before .before .before .before .args .text .now) (c .before .before .before .before .before .before .before .admit .result) (c .before .before .before .before .before .start .given .1) (c .before .before .before .before .before .before .before .admit .ensures)) .0) (c .before .before .check-body .ensures .0), scratch-run 8 (c .before .before .before .before .before .before .before .before .before .before .args .ceiling) _ (c .before .before .before .before .before .before .before .before .before .before .args .workspace .now) _ _ (ap (λ (v : Values). v .number) (c .before .before .check-body .ensures .0)) (check-ran (c .before .before .before .before .before .before .before .before .before .before .args .ceiling) (kinds-of (c .before .before .before .before .before .before .before .before .before .before .args .what)) (Symbols.symbol (c .before .before .before .before .before .before .before .before .before .before .args .text .now) (c .before .before .before .before .before .start .given .0 .0) (c .before .before .before .before .before .start .given .0 .1 .0)) .late) (c .before .before .check-body .ensures .1 .long) (c .before .before .check-body .ensures .1 .past))
+returns c = (entered-values (c .before .before .before .before .before .before .before .before .before .before .args .what) 8 (c .before .before .before .before .before .before .before .before .before .before .args .ceiling) (length (c .before .before .before .before .before .before .before .before .before .before .args .workspace .now)) (c .before .before .before .before .before .before .before .before .before .before .args .text .now) (Check.whole (c .before .before .before .before .before .before .before .before .before .before .args .ceiling) (kinds-of (c .before .before .before .before .before .before .before .before .before .before .args .what))) (c .before .before .check-body .result) ((was-body (c .before .before .before .before .before .before .before .before .before .before .args .what) 8 (c .before .before .before .before .before .before .before .before .before .before .args .ceiling) (length (c .before .before .before .before .before .before .before .before .before .before .args .workspace .now)) (c .before .before .before .before .before .before .before .before .before .before .args .text .now) (c .before .before .before .before .before .before .before .admit .result) (c .before .before .before .before .before .start .given .1) (c .before .before .before .before .before .before .before .admit .ensures)) .0) (c .before .before .check-body .ensures .0), scratch-run 8 (c .before .before .before .before .before .before .before .before .before .before .args .ceiling) _ (c .before .before .before .before .before .before .before .before .before .before .args .workspace .now) _ _ (ap (λ (v : Values). v .number) (c .before .before .check-body .ensures .0)) (check-ran (c .before .before .before .before .before .before .before .before .before .before .args .ceiling) (kinds-of (c .before .before .before .before .before .before .before .before .before .before .args .what)) (Symbols.symbol (c .before .before .before .before .before .before .before .before .before .before .args .text .now) (c .before .before .before .before .before .start .given .0 .0) (c .before .before .before .before .before .start .given .0 .1 .0)) .late) (c .before .before .check-body .ensures .1))
 
 -- src/lib.rt:63:1
 returns-2 : tie.Need-returns-2
