@@ -128,26 +128,26 @@ member-of-is n = go (view n) refl (viewed n)
     go other e v = rw (e, member-of, failed (eqb (kind n) K.protocol-list) (v .1)) refl
 
 -- THE FUNCTIONS THAT LOOK INTO A NODE
-by-test : {A B : Type 0} (o : Option A) (x : A) (b : Bool) (z : B) (f : A → B) → Taken o x b → given o z f ≡ (if b then f x else z)
-by-test o x b z f e = ap (λ o. given o z f) e ∙ if-given b x z f
+given-by-test : {A B : Type 0} (o : Option A) (x : A) (b : Bool) (z : B) (f : A → B) → Taken o x b → given o z f ≡ (if b then f x else z)
+given-by-test o x b z f e = ap (λ o. given o z f) e ∙ if-given b x z f
 
 pub name-in-is : (n : Node) → R.name-in n ≡ (if K.is-identifier (kind n) then ret (the-name n) else refuse 10)
 unfolding R.name-in
-name-in-is n = by-test _ (the-name n) (K.is-identifier (kind n)) (refuse 10) ret (name-of-is n)
+name-in-is n = given-by-test _ (the-name n) (K.is-identifier (kind n)) (refuse 10) ret (name-of-is n)
 
 pub context-in-is : (n : Node) → R.context-in n ≡ (if K.is-identifier (kind n) then ret (Module (the-name n)) else if K.is-context (kind n) then ret n else refuse 10)
 unfolding R.context-in
-context-in-is n = by-test _ (the-name n) (K.is-identifier (kind n)) _ _ (name-of-is n)
+context-in-is n = given-by-test _ (the-name n) (K.is-identifier (kind n)) _ _ (name-of-is n)
 
 pub protocol-in-is : (n : Node) →
     R.protocol-in n ≡ (if K.is-protocol (kind n) then ret n else if eqb (kind n) K.protocol-list && eqb (count n) 1 then ret (the-member n) else if K.is-identifier (kind n) then (R.context >>= λ c. ret (Nominal N.Protocol c (the-name n))) else refuse 10)
 unfolding R.protocol-in
-protocol-in-is n = ap (λ (x : Run Node). if K.is-protocol (kind n) then ret n else x) (by-test _ (the-member n) (eqb (kind n) K.protocol-list && eqb (count n) 1) _ _ (member-of-is n) ∙ ap (λ (x : Run Node). if eqb (kind n) K.protocol-list && eqb (count n) 1 then ret (the-member n) else x) (by-test _ (the-name n) (K.is-identifier (kind n)) _ _ (name-of-is n)))
+protocol-in-is n = ap (λ (x : Run Node). if K.is-protocol (kind n) then ret n else x) (given-by-test _ (the-member n) (eqb (kind n) K.protocol-list && eqb (count n) 1) _ _ (member-of-is n) ∙ ap (λ (x : Run Node). if eqb (kind n) K.protocol-list && eqb (count n) 1 then ret (the-member n) else x) (given-by-test _ (the-name n) (K.is-identifier (kind n)) _ _ (name-of-is n)))
 
 pub label-in-is : (n : Node) → R.label-in n ≡ (if K.is-identifier (kind n) then ret (some (the-name n)) else if eqb (kind n) K.first-element-marker then ret none else refuse 10)
 unfolding R.label-in
-label-in-is n = by-test _ (the-name n) (K.is-identifier (kind n)) _ _ (name-of-is n)
+label-in-is n = given-by-test _ (the-name n) (K.is-identifier (kind n)) _ _ (name-of-is n)
 
 pub arity-is : (ty : Node) → R.arity ty ≡ (if eqb (kind ty) K.generic-type then R.arity-of (the-inner ty) else R.arity-of ty)
 unfolding R.arity
-arity-is ty = by-test _ (the-inner ty) (eqb (kind ty) K.generic-type) (R.arity-of ty) R.arity-of (inner-of-is ty)
+arity-is ty = given-by-test _ (the-inner ty) (eqb (kind ty) K.generic-type) (R.arity-of ty) R.arity-of (inner-of-is ty)

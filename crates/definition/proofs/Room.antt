@@ -1,32 +1,25 @@
--- How much a run can make for what it is charged: the depth of the stack, the weight of what lies on it, what is remembered, and records.
--- Proved over the check's table, row by row of a computed test; it holds of the trees because the runs go alike.
+-- How much a run can make for what it is charged: the depth of the stack, the weight of what lies on it, and what is
+-- remembered. Proved over the check's table, row by row of a computed test.
 use mathlib.Core.Path.{_≡_, refl, sym, ap, _∙_, subst}
-use mathlib.Core.Bool.{Bool, true, false, _&&_, _||_, not}
-use mathlib.Core.List.{List, [], _∷_, _++_, map}
+use mathlib.Core.Bool.{Bool, true, false, _&&_}
+use mathlib.Core.List.{List, [], _∷_, _++_}
 use mathlib.Core.Option.{Option, some, none}
-use Prim.Native.Nat.{ℕ, zero, suc, _+_, _*_, _-_, _≤_, _<_}
+use Prim.Native.Nat.{ℕ, zero, suc, _+_, _*_, _-_, _≤_}
 use native.Mathlib.Omega.{arith}
 use lib.Dec.{T, eqb, ltb, leb, leb→le}
 use borrow.Author.Tests.{leb-true}
 use native.Mathlib.Nat.{mul-zero, mul-suc, one-mul, le-trans, le-of-eq, mul-le-mul-right}
-use lib.ListN.{length, length-append, length-map, length-replicate, getElem?, replicate}
-use Rattle.definition.specs.Base.{Name, digit, if_then_else_, given, is-some, Out, ok, refused, Step, Done, ret, refuse, and-then, _>>=_, _>>_, Late, good, bad, judge}
-use Rattle.definition.specs.Text.{Text}
+use lib.ListN.{length, length-append, length-replicate, getElem?, replicate}
+use Rattle.definition.specs.Base.{if_then_else_, given, is-some, Out, ok, refused, Done, ret, refuse, and-then, _>>=_, _>>_, Late, good, bad}
 use Rattle.definition.specs.Kind as K
 use Rattle.definition.specs.Kind.{Entry, entry}
-use Rattle.definition.specs.Node.{Node, size, entry-of}
 use Rattle.definition.specs.Operators as Op
 use Rattle.definition.specs.Budget as B
-use Rattle.definition.specs.Budget.{Budget}
 use Rattle.definition.specs.Machine as M
-use Rattle.definition.specs.Machine.{Machine, machine, restack, fresh, spent, spend, wrap, know, remember, recall, push, push-copies, rounds}
+use Rattle.definition.specs.Machine.{restack, spent, spend, wrap, know, remember, recall, push, push-copies, rounds}
 use Rattle.definition.specs.Shape as C
 use Rattle.definition.specs.Check as Ch
-use Rattle.definition.specs.Calls.{End, ran, stopped, then-run, turn, turns}
-use Rattle.definition.specs.Perform.{Demangler}
 use Rattle.definition.proofs.SameText.{both}
-use Rattle.definition.proofs.Simulation.{shapes}
-use Rattle.definition.proofs.JudgingAlike.{read-turns, check-turns, shapes-end, runs-alike}
 use Rattle.definition.specs.Shape.{Shapes, Check, kind-of, Take, Leaves, Taken, taken}
 
 -- the sizes of entries together
@@ -601,20 +594,6 @@ module _ (N : ℕ) where
     };
   }
 
-  then-run-fits : {A : Type 0} (x : Out Text A) (e : A → Check Done) → ((a : A) → Holds (Fits 1) (e a) (λ x s. Fits 0 s)) → Holds (Fits 1) (then-run x e) (λ u s. Fits 0 s)
-  unfolding then-run
-  then-run-fits (ok a u) e h = bind _ (h a) λ _. returns u (λ s f. f)
-  then-run-fits (refused r) e h = refuses r
-
-  one-fits : (t : Text) → Holds (Fits 1) (Ch.one N t) (λ u s. Fits 0 s)
-  unfolding Ch.one
-  one-fits [] = refuses 9
-  one-fits (c ∷ t) = go (digit c)
-    where
-      go : (b : Bool) → Holds {A = Text} (Fits 1) (elim b [ true ↦ λ m. then-run (Ch.identifier (m .words) (c ∷ t)) (λ r. Ch.name N (r .words)) m | false ↦ then-run (Op.operator c t) (λ op. C.run-row N (C.row op)) ]) (λ u s. Fits 0 s)
-      go true = record { at = λ s f. then-run-fits (Ch.identifier (s .words) (c ∷ t)) (λ r. Ch.name N (r .words)) (λ r. name-fits (r .words)) .at s f }
-      go false = then-run-fits (Op.operator c t) (λ op. C.run-row N (C.row op)) (λ op. row-fits (C.row op) (rows-make-four op))
-
   step-fits : (j : ℕ) → Holds (Fits j) (spend B.step) (λ x s. Fits j s)
   unfolding spend B.step
   step-fits j = record { at = λ s f. go s f (ltb (s .budget .steps) 4096) }
@@ -645,10 +624,6 @@ module _ (N : ℕ) where
       go s true q = leb-true (s .budget .total + n) N q
       go s false q = tt
 
-  turn-fits : (t : Text) → Holds (Fits 0) (turn N (Ch.one N) t) (λ u s. Fits 0 s)
-  unfolding turn
-  turn-fits t = bind _ (step-fits 0) λ _. bind _ (charge-fits 0 1) λ _. one-fits t
-
   kept : (P R : Shapes → Type 0) {A : Type 0} (e : Check A) → Holds P e (λ x s. R s) → (s s₁ : Shapes) (a : A) → P s → e s ≡ ok a s₁ → R s₁
   kept P R e h s s₁ a p q = rw q at (h .at s p)
 
@@ -665,7 +640,7 @@ module _ (N : ℕ) where
   pub begin-total : (s s₁ : Shapes) → Fits 0 s → (spend B.step >> spend (B.charge N 1)) s ≡ ok tt s₁ → s₁ .budget .total ≤ N
   begin-total s s₁ f q = kept (Fits 0) (Charged N) (spend B.step >> spend (B.charge N 1)) begun-charged s s₁ tt f q
 
-  -- one operator, given the charge of its turn; copies of a remembered entry; and one turn
+  -- one operator, given the charge of its turn; a name; and copies of a remembered entry
   pub row-keeps : (op : Op.Operator) (s s₁ : Shapes) → Fits 1 s → C.run-row N (C.row op) s ≡ ok tt s₁ → Fits 0 s₁
   row-keeps op s s₁ f q = kept (Fits 1) (Fits 0) (C.run-row N (C.row op)) (row-fits (C.row op) (rows-make-four op)) s s₁ tt f q
 
@@ -676,9 +651,6 @@ module _ (N : ℕ) where
   recall-keeps times i s s₁ f q =
       kept (Fits 0) (Fits 0) (recall i >>= λ e. C.copied N times e) (bind _ (recall-fits N 0 i) λ e. recalled-copies-fit N 0 times e) s s₁ tt f q
 
-  pub turn-keeps : (t u : Text) (s s₁ : Shapes) → Fits 0 s → turn N (Ch.one N) t s ≡ ok u s₁ → Fits 0 s₁
-  turn-keeps t u s s₁ f q = kept (Fits 0) (Fits 0) (turn N (Ch.one N) t) (turn-fits t) s s₁ u f q
-
   -- the charged total stays at the ceiling or below
   pub row-total : (op : Op.Operator) (s s₁ : Shapes) → Fits 1 s → s .budget .total ≤ N → C.run-row N (C.row op) s ≡ ok tt s₁ → s₁ .budget .total ≤ N
   row-total op s s₁ f h q = kept (λ s. Fits 1 s × Charged N s) (Charged N) (C.run-row N (C.row op)) (row-charged (C.row op)) s s₁ tt (f, h) q
@@ -686,47 +658,3 @@ module _ (N : ℕ) where
   pub recall-total : (times i : ℕ) (s s₁ : Shapes) → s .budget .total ≤ N → (recall i >>= λ e. C.copied N times e) s ≡ ok tt s₁ → s₁ .budget .total ≤ N
   recall-total times i s s₁ h q =
       kept (Charged N) (Charged N) (recall i >>= λ e. C.copied N times e) (bind _ (recall-charged N i) λ e. copied-charged N times e) s s₁ tt h q
-
-  abbrev FitsEnd : End Shapes → Type 0
-  FitsEnd (ran s) = Fits 0 s
-  FitsEnd (stopped r left) = Unit {0}
-
-  turns-fit : (k : ℕ) (t : Text) (s : Shapes) → Fits 0 s → FitsEnd (turns (turn N (Ch.one N)) k t s)
-  unfolding turns
-  turns-fit zero t s f = f
-  turns-fit (suc k) [] s f = f
-  turns-fit (suc k) (c ∷ t) s f = go (turn N (Ch.one N) (c ∷ t) s) (turn-fits (c ∷ t) .at s f) (λ u s₁ f₁. turns-fit k u s₁ f₁)
-    where
-      go : (x : Out Shapes Text) → Result (λ u s. Fits 0 s) x → ((u : Text) (s : Shapes) → Fits 0 s → FitsEnd (turns (turn N (Ch.one N)) k u s)) → FitsEnd (elim x [ ok u s₁ ↦ turns (turn N (Ch.one N)) k u s₁ | refused r ↦ stopped r (length (c ∷ t)) ])
-      go (ok u s₁) h next = next u s₁ h
-      go (refused r) h next = tt
-
-  -- Whatever k and the text are, what a run of the check has at its end fits its charged total
-  pub check-fits : (k : ℕ) (t : Text) (s : Shapes) → check-turns N k t ≡ ran s → Fits 0 s
-  unfolding B.fresh weigh
-  check-fits k t s e = subst (λ (x : End Shapes). FitsEnd x) e (turns-fit k t (fresh 0) (record { depth = le-of-eq refl; weight = le-of-eq refl; kept = le-of-eq refl; sized = tt; remembered = tt }))
-
-  -- and so do the trees of a reading: their entries fit
-  pub reading-fits : (k : ℕ) (t : Text) (m : Demangler) → read-turns N k t ≡ ran m → Fits 0 (shapes m)
-  reading-fits k t m e = check-fits k t (shapes m) (runs-alike N k t .end-is ∙ ap (shapes-end N) e)
-
--- RECORDS in the workspace. With R records made, D nodes on the stack and a charged total of T, k half records can still be made. A record
--- costs 2 and a push 3; a node that is taken off gives 3 back, and a charge of 1 gives 15
-pub record Room (R D T k : ℕ) : Type 0 where
-  pub room : 2 * R + 3 * D + k ≤ 15 * T
-
-pub room-charged : {R D T k : ℕ} (n : ℕ) → Room R D T k → Room R D (T + n) (k + 15 * n)
-room-charged n r = record { room = omega (arith, r .room) }
-
-pub room-made : {R D T k : ℕ} → Room R D T (k + 2) → Room (R + 1) D T k
-room-made r = record { room = omega (arith, r .room) }
-
-pub room-pushed : {R D T k : ℕ} → Room R D T (k + 3) → Room R (D + 1) T k
-room-pushed r = record { room = omega (arith, r .room) }
-
-pub room-popped : {R D T k : ℕ} → Room R (D + 1) T k → Room R D T (k + 3)
-room-popped r = record { room = omega (arith, r .room) }
-
--- 8 numbers a record: they end at 60 × N or before
-pub room-fits : {R D T N : ℕ} → Room R D T 0 → T ≤ N → 8 * R ≤ 60 * N
-room-fits r h = omega (arith, r .room)

@@ -110,14 +110,6 @@ module _ {A B : Type 0} {P : A → Type 0} {f : A → B} where
   if-sim true h k = h tt
   if-sim false h k = k tt
 
-  -- with no more known of the value
-  pub weaken : {s : Run A} {e : Check B} → Sim P f s e → Sim Any f s e
-  weaken {s} {e} h = record { at = λ m i. go (s m) (e (shapes m)) (h .at m i) }
-    where
-      go : (x : Out Demangler A) (y : Out Shapes B) → Sound P f x y → Sound Any f x y
-      go (ok a m) y t = (t .0, tt, t .2)
-      go (refused r) y t = t
-
 pub judge-sim : {A : Type 0} (l : Late A) → Sim {A = A} Any itself (judge l) (judge l)
 judge-sim (good a) = ret-sim a tt
 judge-sim (bad r) = refuse-sim r

@@ -60,12 +60,6 @@ pub record WellKept (ws : List Name) : Type 0 where
 pub well-kept-none : WellKept []
 well-kept-none = record { long = tt; few = omega arith }
 
--- a word that line 812 finds has 2 bytes or more
-pub long-at : (ws : List Name) (i : ℕ) (w : Name) → Long ws → getElem? ws i ≡ some w → 2 ≤ length w
-long-at [] i w l e = let z : _≡_ {A = ℕ} 0 1 = cc in absurd (omega arith)
-long-at (v ∷ ws) zero w l e = let z : v ≡ w = cc in rw (← z) (l .0)
-long-at (v ∷ ws) (suc i) w l e = long-at ws i w (l .1) e
-
 -- both, of an older and a newer list
 record Added (ws vs : List Name) : Type 0 where
   begins : Begins ws vs
@@ -99,13 +93,6 @@ keep-added word ws = go (leb 2 (length word)) (ltb (length ws) most-words) (leb�
     go true false h k = added-none ws
     go false b h k = added-none ws
 
--- a word has ended, lines 858 to 860
-pub keep-begins : (word : Name) (ws : List Name) → Begins ws (keep word ws)
-keep-begins word ws = keep-added word ws .begins
-
-pub keep-well-kept : (word : Name) (ws : List Name) → WellKept ws → WellKept (keep word ws)
-keep-well-kept word ws = keep-added word ws .well-kept
-
 note-words-from-added : (word : Name) (previous : ℕ) (t : Text) (ws : List Name) → Added ws (note-words-from word previous t ws)
 unfolding note-words-from
 note-words-from-added [] previous [] ws = added-none ws
@@ -115,13 +102,6 @@ note-words-from-added (x ∷ word) previous (c ∷ t) ws =
     by-test (Added ws) (is "_" c) _ _ (added-both (keep-added (x ∷ word) ws) (note-words-from-added [] c t (keep (x ∷ word) ws)))
     (by-test (Added ws) (not (upper previous) && upper c) _ _ (added-both (keep-added (x ∷ word) ws) (note-words-from-added (c ∷ []) c t (keep (x ∷ word) ws)))
     (note-words-from-added ((x ∷ word) ++ (c ∷ [])) c t ws))
-
--- the loop of lines 849 to 871
-pub note-words-from-begins : (word : Name) (previous : ℕ) (t : Text) (ws : List Name) → Begins ws (note-words-from word previous t ws)
-note-words-from-begins word previous t ws = note-words-from-added word previous t ws .begins
-
-pub note-words-from-well-kept : (word : Name) (previous : ℕ) (t : Text) (ws : List Name) → WellKept ws → WellKept (note-words-from word previous t ws)
-note-words-from-well-kept word previous t ws = note-words-from-added word previous t ws .well-kept
 
 note-words-added : (t : Text) (ws : List Name) → Added ws (note-words t ws)
 unfolding note-words
@@ -176,10 +156,6 @@ pub identifier-from-begins : (f : ℕ) (subs punycoded : Bool) (ws : List Name) 
     identifier-from f subs punycoded ws name t ≡ ok r u → Begins ws (r .words)
 identifier-from-begins f subs punycoded ws name t u r e = (subst (Yields (λ r u. Added ws (r .words))) e (identifier-from-added f subs punycoded ws name .at t)) .begins
 
-pub identifier-from-well-kept : (f : ℕ) (subs punycoded : Bool) (ws : List Name) (name : Name) (t u : Text) (r : Identified) →
-    identifier-from f subs punycoded ws name t ≡ ok r u → WellKept ws → WellKept (r .words)
-identifier-from-well-kept f subs punycoded ws name t u r e = (subst (Yields (λ r u. Added ws (r .words))) e (identifier-from-added f subs punycoded ws name .at t)) .well-kept
-
 -- the steps of `identifier`, with n rounds of the loop allowed
 rounds-added : (n : ℕ) (ws : List Name) → Reads (λ r. Added ws (r .words)) (do
   zero₁ ← next-if (is "0")
@@ -201,9 +177,6 @@ identifier-added ws t = rounds-added (suc (length t)) ws .at t
 -- `identifier`, lines 790 to 843, where it is not refused
 pub identifier-begins : (ws : List Name) (t u : Text) (r : Identified) → identifier ws t ≡ ok r u → Begins ws (r .words)
 identifier-begins ws t u r e = (subst (Yields (λ r u. Added ws (r .words))) e (identifier-added ws t)) .begins
-
-pub identifier-well-kept : (ws : List Name) (t u : Text) (r : Identified) → identifier ws t ≡ ok r u → WellKept ws → WellKept (r .words)
-identifier-well-kept ws t u r e = (subst (Yields (λ r u. Added ws (r .words))) e (identifier-added ws t)) .well-kept
 
 -- TURNS
 -- a step adds words at most
