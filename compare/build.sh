@@ -1,9 +1,11 @@
-# How the programs of this folder are built; sourced by the commands beside it. All results go to target/compare.
+# How the programs of this folder are built; sourced by the commands in this folder. All results go
+# to target/compare.
 #
 # RUST_SOURCE   the Rust source to compare with, unchanged and never committed
-# LIBCAPI       the folder of our calls: what `rt staticlib capi` and `rt staticlib capi_check` write
-# ORACLE        another instrumented copy of the Rust than instrument.py makes, built as a library;
-#               or `none`: without one
+# LIBCAPI       the folder of our calls, which `rt staticlib capi` and `rt staticlib capi_check`
+#               write
+# ORACLE        an instrumented copy of the Rust other than the one that instrument.py makes, built
+#               as a library; or `none`: without one
 root=$(cd "$here/.." && pwd)
 out=$root/target/compare
 RUST_SOURCE=${RUST_SOURCE:-$root/../shared/docs/src/crates/ag-engine/src/swift_demangle.rs}
@@ -19,7 +21,7 @@ fail() {
 
 command -v rustc >/dev/null || fail "no rustc: the Rust source and the programs of compare/src are built with it"
 
-# library NAME SOURCE: builds a Rust source as a library of its own.
+# library NAME SOURCE: builds a Rust source as a separate library.
 library() {
     rustc --edition 2021 -C opt-level=3 --crate-type rlib --crate-name "$1" --cap-lints allow "$2" -o "$out/lib$1.rlib"
 }
@@ -53,7 +55,7 @@ instrumented() {
     library instrumented "$out/instrumented.rs"
 }
 
-# The instrumented copy, or the one that is given, or none.
+# The instrumented copy, or the given one, or none.
 oracle() {
     if [ "${ORACLE:-}" = none ]; then
         return
@@ -66,7 +68,7 @@ oracle() {
     link+=(--cfg oracle --extern "instrumented=$ORACLE")
 }
 
-# The same where the answers can come from nowhere else.
+# The same, if the answers can come from nowhere else.
 oracle_needed() {
     [ "${ORACLE:-}" != none ] || fail "the answers are those of the instrumented copy, which ORACLE=none leaves out"
     oracle

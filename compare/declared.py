@@ -6,12 +6,12 @@ ROOT is the repository, SWIFT the folder that compare/swift/fetch sets up, PROGR
 `filter` (the Rust, unchanged) and `occurring` (its operators in names). compare/declared calls it.
 
 A comment `// = text` in a source is the text that the Rust prints for one compiled name of the
-declaration after it; a line `//   ` continues the text. The name is looked for among all that
-Swift's own compiler gives for that source, and Swift's own text of it must have what is declared in
-it. `// ~ text` is the same for a name that the declaration brings with it and that is not its own:
-its module's, or one that its code uses. `// Section: title` names the table of docs/NAMES.md that
-the rows after it go into. A type or an extension over several lines ends its first line with a
-brace, and a line of its own closes it.
+declaration after it; a line `//   ` continues the text. The name is searched among all names that
+Swift's own compiler gives for that source, and Swift's own text of it must contain what is
+declared. `// ~ text` is the same for a name that comes with the declaration and is not its own: that
+of its module, or one that its code uses. `// Section: title` names the table of docs/NAMES.md to
+which the rows after it belong. A type or an extension over several lines ends its first line with a
+brace, and a separate line closes it.
 """
 import difflib
 import os
@@ -36,15 +36,15 @@ Row = namedtuple("Row", "section declaration name text swift")
 
 
 class Problem(Exception):
-    """What is wrong with sources, names or page, a line each."""
+    """The problems with sources, names or page, one per line."""
 
 
 # The sources
 
 
 def headline(code):
-    """A declaration without its body. A body in the same line stays where it says something: of a
-    function, where it calls something or takes a member; of others, where it is not empty."""
+    """A declaration without its body. A body in the same line is kept if it says something: for a
+    function, if it calls something or takes a member; for others, if it is not empty."""
     front, _, body = code.partition(" {")
     if FUNCTION.match(code) and not re.search(r"\w\(|\.", body):
         return front
@@ -54,7 +54,7 @@ def headline(code):
 
 
 def unfinished(code):
-    """Whether a declaration goes on in the next line: a parenthesis is open, or two braces are."""
+    """Whether a declaration continues in the next line: a parenthesis or two braces are open."""
     return code.count("(") > code.count(")") or code.count("{") > code.count("}") + 1
 
 
@@ -89,7 +89,7 @@ class Source:
             raise Problem(f"{self.place}: no declaration after the comment of {self.texts[-1][0]}")
 
     def code(self, code):
-        """A line of code: a declaration, the begin of one, its next line, or a closing brace."""
+        """A line of code: a declaration, the start of one, its next line, or a closing brace."""
         code = (self.begun + " " + code).replace("( ", "(").strip()
         self.begun = code if unfinished(code) else ""
         if self.begun:
@@ -156,7 +156,7 @@ def words_of(text):
 
 
 def found(asked, texts, swifts):
-    """The rows that have one compiled name, with it; what is wrong with the others."""
+    """The rows that have one compiled name, with that name; the problems with the others."""
     named, problems = [], []
     for row in asked:
         names = [name for name, text in texts.items() if text == row.text]
@@ -172,13 +172,13 @@ def found(asked, texts, swifts):
 
 
 def nearest(text, texts):
-    """The three names whose texts are most like the one that is asked for."""
+    """The three names whose texts are most similar to the one that is asked for."""
     by_text = {own: name for name, own in texts.items()}
     return [by_text[own] for own in difflib.get_close_matches(text, by_text, 3, 0)]
 
 
 def twice(named):
-    """What is wrong where two comments ask for one name."""
+    """The problem if two comments ask for one name."""
     first, problems = {}, []
     for row, name in named:
         if name in first:
@@ -188,8 +188,8 @@ def twice(named):
 
 
 def confirmed(root, programs):
-    """Every comment with its name; all compiled names; the texts of those that the Rust reads, by
-    the Rust and by Swift."""
+    """Every comment with its name; all compiled names; the texts of those that the Rust reads, from
+    the Rust and from Swift."""
     folder = os.path.join(root, FOLDER)
     named, problems, names, texts, swifts = [], [], set(), {}, {}
     for source in sorted(f for f in os.listdir(folder) if f.endswith(".swift")):
@@ -232,7 +232,7 @@ def cell(text):
 
 
 def table(rows):
-    """A section's rows; Swift's own text is a column where it differs in one of them."""
+    """The rows of a section; Swift's own text is a column if it differs in one of them."""
     heads = ["declaration", "mangled name", "text", "Swift's own text, where it differs"]
     columns = 4 if any(row.swift for row in rows) else 3
     lines, above = [heads, ["---"] * 4], None
@@ -244,7 +244,7 @@ def table(rows):
 
 
 def filled(page, rows, coverage):
-    """The page with the tables of these rows, and with what they cover."""
+    """The page with the tables of these rows, and with their coverage."""
     by_section = {}
     for row in rows:
         by_section.setdefault(row.section, []).append(row)
@@ -270,7 +270,7 @@ def covered(rows, names, texts, used):
 
 
 def report(rows, texts, swifts, used, programs):
-    """Prints what Swift reads otherwise, and where the operators that are in no row occur."""
+    """Prints what Swift reads differently, and where the operators that are in no row occur."""
     others = sum(1 for name, text in texts.items() if swifts[name] != text)
     print(f"{others} of the names that are read have another text by Swift's own demangler,")
     print(f"{sum(1 for row in rows if row.swift)} of them in rows")
@@ -292,7 +292,7 @@ def kept(path):
 
 
 def settle(root, path, text, check):
-    """Writes a file; or, where it is only checked, says where it differs."""
+    """Writes a file; or, if it is only checked, reports where it differs."""
     own = kept(os.path.join(root, path))
     if own == text:
         return True

@@ -1,26 +1,29 @@
 #!/usr/bin/env python3
 """Writes stdin and stdout of crates/names and crates/shapes. None of our own code makes an answer.
 
-Run from the repository's root: compare/names.py PROGRAM. PROGRAM reads lines and answers each with `=`, a tab and the text that the Rust's
-`demangle` gives, or with `!` where it gives None (or the line is not UTF-8): swift_demangle.rs of ag-engine with a main of a few lines, built
-by rustc. Whether a name is read, and its text, are PROGRAM's; refusals' numbers and places, and the counts, are taken by hand from document
-01. What the Rust cannot say at a ceiling of 256, with lines of 4,096 bytes and 16,384 bytes of text, is written here as document 01 has it.
+Run from the repository's root: compare/names.py PROGRAM. PROGRAM reads lines and answers each with
+`=`, a tab and the text that the Rust's `demangle` gives, or with `!` if it gives None (or the line
+is not UTF-8): swift_demangle.rs of ag-engine with a main of a few lines, built by rustc. PROGRAM
+decides whether a name is read, and gives its text. The numbers and places of refusals, and the
+counts, are taken by hand from document 01. What the Rust cannot answer at a ceiling of 256, with
+lines of 4,096 bytes and 16,384 bytes of text, is written here according to document 01.
 """
 import subprocess
 import sys
 
-BUFFER = 65536  # what the programs read at once
+BUFFER = 65536  # how much the programs read at once
 LINE = 4096
 
 
 def filled(front, size):
-    """The name with a suffix that makes it so long."""
+    """The name with a suffix that gives it this length."""
     return front + b"." + b"x" * (size - len(front) - 1)
 
 
 FOO = b"$s4main3fooyyF"
 
-# (line, refusal of `names`, counts of `shapes`): no refusal means that the Rust reads it; no counts, that `shapes` refuses alike
+# (line, refusal of `names`, counts of `shapes`): no refusal means that the Rust reads it; no
+# counts, that `shapes` refuses in the same way
 CASES = [
     (FOO, None, (5, 5, 1)),
     (b"$sZ", (10, 2), None),
@@ -52,7 +55,7 @@ CASES = [
 # lines of many lengths, some across the end of a buffer
 MANY = [(b"$s4main%d%syyF" % (n, b"a" * n), None, (5, 5, 1)) for k in range(30) for n in range(1, 61)]
 
-# the input of `names` ends in a short line with no newline, that of `shapes` in a newline
+# the input of `names` ends with a short line without a newline, that of `shapes` with a newline
 TAIL = [(b"$s4main3foo3barySi_tF", None, (8, 10, 2)), (b"$sZ", (10, 2), None)]
 ENDS = {"names": b"", "shapes": b"\n"}
 

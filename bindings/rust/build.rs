@@ -1,5 +1,6 @@
-//! Links libcapi.a and libcapi_check.a, which `rt staticlib capi` and `rt staticlib capi_check` write. CEPRUVELS_LIB names the folder that they
-//! are in; without it, ../../target/staticlib is taken.
+//! Links libcapi.a and libcapi_check.a, which `rt staticlib capi` and `rt staticlib capi_check`
+//! write. CEPRUVELS_LIB names the folder that they are in; without it, ../../target/staticlib is
+//! used.
 
 use std::path::PathBuf;
 

@@ -1,10 +1,10 @@
-//! Names per second of the Rust, of Swift's own demanglers and of ours, on a made list and on real
-//! names, in one run; memory; and how time grows (compare/bench builds and starts it). What it
-//! prints goes into docs/SPEED.md.
+//! Names per second of the Rust, of Swift's own demanglers and of ours, on a list of made names and
+//! on real names, in one run; memory; and growth of time (compare/bench builds and starts it). Its
+//! output goes into docs/SPEED.md.
 //!
-//! Times are of the processor, not of the clock on the wall, so that what else runs on the machine
-//! counts little. Each number is the median of five, taken in turn: every contender once, then
-//! every one again.
+//! Times are processor time, not wall-clock time, so that other work on the machine has little
+//! effect. Each number is the median of five. The contenders take turns: every one once, then every
+//! one again.
 
 mod grammar;
 mod mangle;
@@ -22,7 +22,7 @@ use std::sync::OnceLock;
 
 const ROUNDS: usize = 5;
 const NAMES: usize = 20_000;
-const CEILING: usize = 256; // the program `names` reads with it
+const CEILING: usize = 256; // the ceiling of the program `names`
 const ROOM: usize = 16_384;
 const MOST: usize = 65_536;
 const NOTHING: &str = "/dev/null";
@@ -37,7 +37,7 @@ struct Moment {
     rest: i64,
 }
 
-/// What the system tells of a process that ended (struct rusage).
+/// What the system reports about a process that ended (struct rusage).
 #[repr(C)]
 struct Usage {
     user: Moment,
@@ -64,7 +64,7 @@ fn median(mut all: Vec<f64>) -> f64 {
     all[all.len() / 2]
 }
 
-/// Our calls with memory of their own.
+/// Our calls with their own memory.
 struct Ours {
     ceiling: usize,
     workspace: Vec<u32>,
@@ -93,7 +93,7 @@ fn in_turn(work: &mut [Box<dyn FnMut() -> usize + '_>]) -> Vec<f64> {
         black_box(w());
         let begun = now();
         black_box(w());
-        // so many passes that a measurement takes at least a tenth of a second
+        // enough passes that a measurement takes at least a tenth of a second
         passes.push((0.1 / (now() - begun).max(1e-9)).ceil().clamp(1.0, 1e7) as usize);
     }
     for _ in 0..ROUNDS {
@@ -124,9 +124,8 @@ fn main() {
     }
 }
 
-/// Names as one text, each with a NUL after it: names that each have memory of their own would have
-/// every contender wait for it, and Swift 6's function looks for the NUL although it is given the
-/// length.
+/// Names as one text, each followed by a NUL. With separate memory for each name, every contender
+/// would wait for memory. Swift 6's function looks for the NUL although it is given the length.
 fn joined(names: &[impl AsRef<str>]) -> String {
     names.iter().map(|name| format!("{}\0", name.as_ref())).collect()
 }
@@ -142,7 +141,7 @@ fn list() -> String {
     joined(&names::names(NAMES, names::SEED, good))
 }
 
-/// Swift 6's own demangler, and the real names that everybody reads.
+/// Swift 6's own demangler, and the real names that all contenders read.
 struct Real {
     six: Six,
     names: String,
@@ -153,8 +152,8 @@ struct Real {
 }
 
 impl Real {
-    /// Of the folder that compare/swift/fetch sets up. The names are shuffled, so that no contender
-    /// profits from neighbours in a sorted list.
+    /// From the folder that compare/swift/fetch sets up. The names are shuffled, so that no
+    /// contender profits from neighbours in a sorted list.
     fn of(folder: &str) -> Result<Real, String> {
         if folder.is_empty() {
             return Err("it was not fetched".to_string());
@@ -190,7 +189,7 @@ fn all(args: &[String]) {
     growth();
 }
 
-/// Reading and check of both lists; of the made one alone where Swift 6 is not there.
+/// Reading and check of both lists, or of the made list only if Swift 6 is missing.
 fn tables(made: &str, real: &mut Result<Real, String>) {
     let about = "made by compare/src/grammar.rs from a fixed seed, all read by the Rust and by Swift 5.5.1";
     readings("made names", about, &names_of(made), real.as_mut().ok().map(|real| &mut real.six));
@@ -223,7 +222,7 @@ fn thousands(n: f64) -> String {
     out
 }
 
-/// A contender: what it is called, and its work, once through the list.
+/// A contender: its name, and its work, once through the list.
 type Contender<'a> = (String, Box<dyn FnMut() -> usize + 'a>);
 
 fn readings(title: &str, about: &str, list: &[&str], six: Option<&mut Six>) {
@@ -262,8 +261,8 @@ fn readings(title: &str, about: &str, list: &[&str], six: Option<&mut Six>) {
     println!("\nThe check reads {:.2} × as many names a second as the reading.\n", rate(others + 2) / rate(others));
 }
 
-/// Holds our calls at N = 256 to the Rust on every name. Returns how many bytes the texts have
-/// together.
+/// Compares our calls at N = 256 with the Rust on every name. Returns the total number of bytes of
+/// the texts.
 fn judged(list: &[&str]) -> usize {
     let mut ours = Ours::new(CEILING, ROOM);
     let mut bytes = 0;
@@ -292,17 +291,17 @@ fn describe(about: &str, list: &[&str], texts: usize) {
     );
 }
 
-/// This program's path, as it was given: where Swift's loader runs it, the system says that it is
-/// the loader.
+/// The path of this program, as it was given. If Swift's loader runs the program, the system
+/// reports the loader instead.
 static ME: OnceLock<String> = OnceLock::new();
 
 fn me() -> &'static str {
     ME.get().unwrap()
 }
 
-/// Seconds of processor time and the most memory in kilobytes of a program run on a file. A small
-/// process starts it and measures: what the system says of a process begins with what the one that
-/// started it had.
+/// Seconds of processor time and the greatest memory in kilobytes of a program that is run on a
+/// file. A small process starts it and measures, because what the system reports about a process
+/// begins with the values of the process that started it.
 fn run(program: &str, args: &[&str], input: &str, output: &str) -> Option<(f64, i64)> {
     let said = std::process::Command::new(me()).args(["run", input, output, program]).args(args).output().unwrap().stdout;
     let said = String::from_utf8(said).unwrap();
@@ -368,7 +367,7 @@ fn filters(title: &str, list: &[&str], repeated: usize, folder: &str, program: &
     println!();
 }
 
-/// Texts that are large in one way, so many of it.
+/// Texts that are large in one way, by that number.
 fn series() -> Vec<(&'static str, &'static str, Vec<usize>, fn(usize) -> String)> {
     let doubling = |from: usize, to: usize| std::iter::successors(Some(from), |n| Some(n * 2)).take_while(|n| *n <= to).collect::<Vec<_>>();
     vec![
@@ -458,7 +457,7 @@ fn growth() {
     }
 }
 
-/// Reads one text in a process of its own, for its memory.
+/// Reads one text in a separate process, for its memory.
 fn one(who: &str, text: &str) {
     match who {
         "none" => {}
@@ -478,7 +477,7 @@ fn one(who: &str, text: &str) {
 fn memory() {
     println!("## Memory\n\nKilobytes that one name takes beyond the program itself, in a process of its own; ours with the workspace that it is lent.\n");
     println!("| name | the Rust | {FIVE} | ours, N = 256 | ours, N = 65,536 |\n|---|---|---|---|---|");
-    // the least of the rounds: what the system counts beside the name differs from run to run
+    // the least of the rounds: what the system counts besides the name differs from run to run
     let least =
         |who: &str, text: &str| (0..ROUNDS).filter_map(|_| run(me(), &["one", who, text], NOTHING, NOTHING)).map(|(_, kb)| kb).min();
     let base = least("none", "").unwrap();

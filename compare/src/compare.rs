@@ -27,7 +27,7 @@ struct Made {
 
 impl Comparison for Made {
     const COMMAND: &'static str = "compare/run";
-    /// Of a name that the grammar made and nothing changed: its tree.
+    /// For a name that the grammar made and that is unchanged: its tree.
     type Known = Option<Tree>;
 
     fn judge(judge: &mut Judge, form: Form, text: &[u8], rust: &Rust) -> Verdict<u64> {
@@ -62,7 +62,7 @@ impl Comparison for Made {
     }
 }
 
-/// Those that every program has, and how many texts there are.
+/// The options that every program has, and the number of texts.
 fn options() -> Option<(Options, usize)> {
     let mut texts = 20_000_000;
     let options = Options::of_command_line(|name, value| match name {

@@ -1,4 +1,4 @@
-//! The Rust as a line filter, for the bench: a line a name, `=`, tab, text; or `!`.
+//! The Rust as a line filter, for the bench: one line for each name, either `=`, tab, text; or `!`.
 
 use std::io::{BufRead, BufReader, BufWriter, Write};
 

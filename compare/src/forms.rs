@@ -1,5 +1,6 @@
-//! Names of the grammar with what they are made of, for compare/swift/differences: symbol, the Rust's text, every operator of the tree as
-//! `parent<child` (`.` for the root's parent), tabs between. Names that the Rust does not read are left out.
+//! Names of the grammar with their operators, for compare/swift/differences: symbol, the Rust's
+//! text, every operator of the tree as `parent<child` (`.` for the parent of the root), separated
+//! by tabs. Names that the Rust does not read are left out.
 
 mod grammar;
 mod mangle;

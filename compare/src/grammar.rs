@@ -1,7 +1,8 @@
 //! Names made by the grammar, as trees of operators (`mangle.rs` spells them).
 //!
-//! Two profiles. `Plain` makes names as shipped binaries have them, by kinds and lengths that are common there. `Wide` takes every
-//! operator of the source's tables with anything that it takes, common or not. Written from document 01 and from the operators' tables.
+//! Two profiles. `Plain` makes names like those of shipped binaries, with the kinds and lengths
+//! that are common there. `Wide` uses every operator of the source's tables with anything that it
+//! takes, common or not. Written from document 01 and from the operators' tables.
 
 use crate::mangle::{kept, leaf, name, op, Mangler, Tree};
 use crate::random::Random;
@@ -12,7 +13,7 @@ pub enum Profile {
     Wide,
 }
 
-/// `S` and one of these is a type of the standard library that is no protocol.
+/// `S` and one of these is a type of the standard library that is not a protocol.
 pub const STANDARD_TYPES: &str = "aAbDdfhIiJNnOPpRrSsuVvWwq";
 /// `S` and one of these is a protocol of the standard library.
 pub const STANDARD_PROTOCOLS: &str = "BEeFGHjKkLlMmQTtUXxYyZz";
@@ -57,7 +58,8 @@ pub fn every_operator() -> Vec<String> {
     all
 }
 
-/// An operator's letters as `every_operator` lists them: operands left out, `Rg` for a requirement `R` with no letter of its own.
+/// The letters of an operator as `every_operator` lists them: operands are left out, `Rg` is a
+/// requirement `R` with no letter of its own.
 pub fn letters_of(letters: &str) -> String {
     let b = letters.as_bytes();
     match b {
@@ -211,7 +213,8 @@ const LABELS: [&str; 20] = [
     "animation",
     "error",
 ];
-/// Names that take every path of words: one letter, one word of capitals, digits, bars, characters of two and three bytes.
+/// Names that use every path of words: one letter, one word of capitals, digits, underscores,
+/// characters of two and three bytes.
 const ODD: [&str; 16] =
     ["a", "x", "id", "HTTPServer", "URLSession", "_impl", "a_b", "ab_cd", "foo2Bar", "v2", "_0", "café", "Ωmega", "x€y", "ABC", "aB"];
 const CODED: [&str; 6] = ["caf_dma", "mega_gdc", "abcd", "_aeao", "gre_Kva", "tst_boa"];
@@ -221,7 +224,7 @@ pub struct Grammar {
     profile: Profile,
     module: String,
     types: Vec<Tree>,
-    /// How many generic parameters the name at hand may use.
+    /// How many generic parameters the current name may use.
     params: usize,
 }
 
@@ -236,14 +239,14 @@ impl Grammar {
         self.profile == Profile::Wide
     }
 
-    /// A new name's surroundings: its module, and the types that it may speak of again.
+    /// The surroundings of a new name: its module, and the types that it may mention again.
     fn begin(&mut self) {
         self.module = self.r.of(&MODULES).to_string();
         self.types.clear();
         self.params = if self.r.chance(20) { 1 + self.r.below(3) } else { 0 };
     }
 
-    /// A symbol: prefix, body, now and then a suffix.
+    /// A symbol: prefix, body, sometimes a suffix.
     pub fn symbol(&mut self) -> Vec<u8> {
         let tree = self.symbol_tree();
         let prefix = ["$s", "_$s", "$S", "_$S"][self.r.weighted(&[88, 8, 2, 2])];
@@ -255,7 +258,7 @@ impl Grammar {
         text
     }
 
-    /// A type's text.
+    /// The text of a type.
     pub fn type_text(&mut self) -> Vec<u8> {
         self.begin();
         let depth = self.r.weighted(&[2, 3, 3, 2, 1]);
@@ -299,7 +302,7 @@ impl Grammar {
         self.r.of(&all[..if self.wide() { 5 } else { 4 }]).as_bytes().to_vec()
     }
 
-    /// Marks and signatures, which a symbol may be too.
+    /// Markers and signatures, which a symbol may also be.
     fn odd_leaf(&mut self) -> Tree {
         match self.r.below(8) {
             0 => leaf("y"),
@@ -404,7 +407,7 @@ impl Grammar {
         kept(vec![context, own], "C")
     }
 
-    /// A nominal type: one of before, or a new one, in a module or in another type.
+    /// A nominal type: an earlier one, or a new one, in a module or in another type.
     pub fn nominal(&mut self, depth: usize) -> Tree {
         if !self.types.is_empty() && self.r.chance(45) {
             return self.types[self.r.below(self.types.len())].clone();
@@ -436,7 +439,7 @@ impl Grammar {
         kept(vec![context, own], "P")
     }
 
-    /// A protocol where the source takes one: a node, a name behind its context, or a list of one.
+    /// A protocol where the source takes one: a node, a name after its context, or a list of one.
     fn protocol(&mut self) -> Vec<Tree> {
         if self.r.chance(25) {
             let (context, own) = (self.module(), self.type_name());
@@ -552,7 +555,7 @@ impl Grammar {
         }
     }
 
-    /// `G`: a type bound to arguments, here and there with the bars between levels.
+    /// `G`: a type bound to arguments, sometimes with the markers between levels.
     fn bound(&mut self, depth: usize) -> Tree {
         let base = if self.wide() && self.r.chance(25) { self.ty(depth) } else { self.nominal(1) };
         let mut parts = vec![base, leaf("y")];
@@ -574,7 +577,7 @@ impl Grammar {
         self.elements(depth, count)
     }
 
-    /// `t` over so many elements, labelled and variadic by chance.
+    /// `t` over that many elements, labelled and variadic at random.
     fn elements(&mut self, depth: usize, count: usize) -> Tree {
         if count == 0 {
             return op(vec![leaf("y")], "t");
@@ -597,7 +600,7 @@ impl Grammar {
         op(parts, "t")
     }
 
-    /// What stands for a function's parameters, and how many there are.
+    /// What represents the parameters of a function, and their number.
     fn parameters(&mut self, depth: usize) -> (Tree, usize) {
         let count = self.r.weighted(&[4, 6, 3, 2, 1]);
         match count {
@@ -620,7 +623,7 @@ impl Grammar {
         }
     }
 
-    /// A parameter's type: no tuple, whose elements would count as parameters of their own.
+    /// The type of a parameter: not a tuple, whose elements would count as parameters of their own.
     fn parameter(&mut self, depth: usize) -> Tree {
         let t = self.ty(depth);
         match &t {
@@ -637,7 +640,8 @@ impl Grammar {
         self.ty(depth)
     }
 
-    /// Result, parameters and marks, as they stand before `c` or `F`; and the number of parameters.
+    /// Result, parameters and markers, as they are written before `c` or `F`; and the number of
+    /// parameters.
     fn function_parts(&mut self, depth: usize) -> (Vec<Tree>, usize) {
         let result = self.result(depth);
         let (params, count) = self.parameters(depth);
@@ -746,7 +750,7 @@ impl Grammar {
         op(parts, &letters)
     }
 
-    /// An associated type's name, under its protocol by chance.
+    /// The name of an associated type, at random under its protocol.
     fn associated(&mut self) -> Vec<Tree> {
         let mut parts = vec![self.type_name()];
         if self.r.chance(60) {
@@ -775,8 +779,9 @@ impl Grammar {
 
     // Entities
 
-    /// Labels before a function's type: none for no parameters, an empty list, or one for each. A compiler writes an empty list where no
-    /// parameter has a label, and labels a single parameter only as a tuple of one.
+    /// Labels before the type of a function: none for no parameters, an empty list, or one for
+    /// each. A compiler writes an empty list if no parameter has a label, and labels a single
+    /// parameter only as a tuple of one.
     fn labels(&mut self, params: &Tree, count: usize) -> Vec<Tree> {
         if count == 0 {
             return if self.wide() && self.r.chance(15) { vec![leaf("y")] } else { Vec::new() };
@@ -821,7 +826,8 @@ impl Grammar {
         op(parts, "vp")
     }
 
-    /// A type that is no function: Swift's own demangler wants labels before a variable of function type.
+    /// A type that is not a function: Swift's own demangler requires labels before a variable of
+    /// function type.
     fn value_type(&mut self, depth: usize) -> Tree {
         let t = self.ty(depth);
         match &t {

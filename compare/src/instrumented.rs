@@ -1,10 +1,10 @@
 //! What compare/instrument.py adds to its copy of the Rust source, as a module of it: the numbers
-//! of the refusals, and a call that answers as ours do.
+//! of the refusals, and a call that answers like ours.
 
 use super::{demangle, demangle_type, split, Demangler, Node};
 use std::cell::Cell;
 
-// The refusals of document 01 but 1 to 3, of which the Rust knows nothing.
+// The refusals of document 01 except 1 to 3, which the Rust does not have.
 const ENCODING: u64 = 4;
 const PREFIX: u64 = 5;
 pub const STEPS: u64 = 6;
@@ -18,8 +18,8 @@ const OUTPUT: u64 = 12;
 pub struct Answer {
     /// Number, place, steps, total, wraps and length, as our calls write them.
     pub values: [u64; 6],
-    /// What is written: of a stopped run the stack, three numbers for each node, bottom first; of a
-    /// whole run the text, where it is printed.
+    /// What is written: for a stopped run the stack, three numbers for each node, bottom first; for
+    /// a whole run the text, if it is printed.
     pub stack: Vec<u32>,
     pub text: String,
 }
@@ -32,13 +32,13 @@ thread_local! {
     static MOST_NAMES: Cell<usize> = const { Cell::new(usize::MAX) };
 }
 
-/// How many parameters' names a signature is printed with at most.
+/// The greatest number of parameter names that a signature is printed with.
 pub fn most_names() -> usize {
     MOST_NAMES.get()
 }
 
-/// What the Rust makes of a symbol or a type with this ceiling and this room for what is written:
-/// of the whole of it, which is printed only with `print`, or stopped after `stop` turns.
+/// The Rust's result for a symbol or a type with this ceiling and this room for what is written:
+/// either whole, which is printed only with `print`, or stopped after `stop` turns.
 pub fn answer(text: &[u8], symbol: bool, ceiling: usize, stop: Option<usize>, print: bool, room: usize) -> Answer {
     let text = match std::str::from_utf8(text) {
         Ok(text) => text,
@@ -50,7 +50,7 @@ pub fn answer(text: &[u8], symbol: bool, ceiling: usize, stop: Option<usize>, pr
         None => return refused(PREFIX, 0),
     };
     let end = text.len() - suffix.map_or(0, str::len);
-    // a text with more names than there is room for bytes is too long whatever follows
+    // a text with more names than there is room for bytes is too long, whatever follows
     MOST_NAMES.set(room.saturating_add(1));
     let mut d = Demangler::new(body);
     d.ceiling = ceiling;
@@ -73,7 +73,7 @@ pub fn answer(text: &[u8], symbol: bool, ceiling: usize, stop: Option<usize>, pr
     Answer { values: [0, 0, d.steps as u64, d.nodes as u64, d.wraps as u64, length as u64], stack, text: printed }
 }
 
-/// One node that is a symbol's, or a type's.
+/// One node that is a symbol's or a type's.
 fn is_whole(stack: &[Node], symbol: bool) -> bool {
     match stack {
         [node] if symbol => !matches!(node, Node::Identifier(_)),
@@ -86,7 +86,8 @@ fn entry(node: &Node) -> [u32; 3] {
     [kind(node), node.size() as u32, count(node)]
 }
 
-/// The place of the node's case in the source's enumeration, nominals split by their five.
+/// The index of the node's case in the enumeration of the source, with nominals split into their
+/// five kinds.
 fn kind(node: &Node) -> u32 {
     const NOMINAL: u32 = 2;
     const OTHER_NOMINALS: u32 = 4;

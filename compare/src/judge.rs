@@ -1,4 +1,5 @@
-//! One text judged: our calls against the Rust, against each other, and against what they may write.
+//! Judges one text: our calls against the Rust, against each other, and against what they may
+//! write.
 
 use crate::ours::{self, numbers_a_node, Answer, Call, Form};
 use crate::random::Random;
@@ -7,20 +8,20 @@ use crate::shared::{Phase, Shared};
 pub const MOST: usize = 65_536; // the Rust's ceiling
 const MOST_TEXT: usize = 65_535;
 const GUARD: usize = 64;
-/// Texts longer than this are not asked for: our calls are then judged by 12 and by the check
-/// alone.
+/// The Rust is not asked for texts longer than this. Our calls are then judged only by 12 and by
+/// the check.
 const MOST_OUT: usize = 64 << 20;
 /// The ceiling of the programs `names` and `shapes`, and the room that `names` has for a text.
 const NAMES_CEILING: usize = 256;
 const NAMES_ROOM: usize = 16_384;
 
-/// What the Rust made of a text.
+/// The result of the Rust for a text.
 pub enum Rust {
     Text(String),
     None,
-    /// It takes only UTF-8, and no longer texts are asked of it than ours reads.
+    /// It takes only UTF-8, and is given no longer texts than ours reads.
     NotAsked,
-    /// It panicked, or ended the process or took too long at an earlier try.
+    /// It panicked, or it ended the process or took too long in an earlier attempt.
     Failed,
 }
 
@@ -44,18 +45,18 @@ pub struct Judge {
     r: Random,
     dirt: Vec<u32>,
     dirt_bytes: Vec<u8>,
-    /// For the ceiling 65,536; each call finds what the ones before it left.
+    /// For the ceiling 65,536; each call finds what the calls before it left.
     big: Vec<u32>,
     small: Vec<u32>,
     out: Vec<u8>,
     stack: Vec<u32>,
-    /// Whether the text at hand is compared with the instrumented copy of the Rust too.
+    /// Whether the current text is also compared with the instrumented copy of the Rust.
     numbers: bool,
     pub calls: u64,
     shared: &'static Shared,
 }
 
-/// Dirt of this length, from there on and round again.
+/// Dirt of this length, starting there and wrapping around.
 fn lay<T: Copy>(dirt: &[T], from: usize, length: usize, to: &mut Vec<T>) {
     to.clear();
     let mut at = from;
@@ -66,7 +67,8 @@ fn lay<T: Copy>(dirt: &[T], from: usize, length: usize, to: &mut Vec<T>) {
     }
 }
 
-/// Whether what was laid from there is still so from the place `start` on, guard included.
+/// Whether the dirt that was taken from there is unchanged from the place `start` on, guard
+/// included.
 fn kept<T: PartialEq>(dirt: &[T], from: usize, laid: &[T], start: usize) -> bool {
     let mut at = (from + start) % dirt.len();
     let mut rest = &laid[start.min(laid.len())..];
@@ -93,7 +95,7 @@ fn must(holds: bool, say: impl FnOnce() -> String) -> Verdict<()> {
     }
 }
 
-/// The refusals 1 to 5 as document 01 orders them, by the standard library's own UTF-8.
+/// The refusals 1 to 5 in the order of document 01, using the standard library's own UTF-8.
 fn refused_early(call: Call, form: Form, text: &[u8], n: usize, workspace: usize) -> Option<Answer> {
     if n == 0 || n > MOST {
         return Some(Answer::refused(1, 0));
@@ -122,20 +124,20 @@ impl Judge {
         Judge { r, dirt, dirt_bytes, big, small: Vec::new(), out: Vec::new(), stack: Vec::new(), numbers: false, calls: 0, shared }
     }
 
-    /// A call was made: the process moves.
+    /// A call was made: the process makes progress.
     fn called(&mut self) {
         self.calls += 1;
         self.shared.turn();
     }
 
-    /// From here on the same choices for the same seed; with `numbers` the instrumented copy of the
-    /// Rust is asked too.
+    /// From here on the choices are the same for the same seed. With `numbers` the instrumented
+    /// copy of the Rust is also asked.
     pub fn begin(&mut self, seed: u64, numbers: bool) {
         self.r = Random::new(seed);
         self.numbers = numbers;
     }
 
-    /// A workspace of so many numbers, all dirt, with a guard behind it. Answers where the dirt was
+    /// A workspace of that many numbers, all dirt, followed by a guard. Returns where the dirt was
     /// taken from.
     fn workspace(&mut self, length: usize) -> usize {
         let from = self.r.below(self.dirt.len());
@@ -143,26 +145,26 @@ impl Judge {
         from
     }
 
-    /// An output slice of so many bytes.
+    /// An output slice of that many bytes.
     fn output(&mut self, length: usize) -> usize {
         let from = self.r.below(self.dirt_bytes.len());
         lay(&self.dirt_bytes, from, length + GUARD, &mut self.out);
         from
     }
 
-    /// An output slice of so many numbers.
+    /// An output slice of that many numbers.
     fn stack_out(&mut self, length: usize) -> usize {
         let from = self.r.below(self.dirt.len());
         lay(&self.dirt, from, length + GUARD, &mut self.stack);
         from
     }
 
-    /// How long a workspace to lend: just enough, or more, or, where it is small, more by far.
+    /// The length of the workspace to lend: exactly enough, or more, or, if it is small, much more.
     fn enough(&mut self, call: Call, n: usize) -> usize {
         numbers_a_node(call) * n + self.r.of(&[0, 0, 1, 7, 64, 1000])
     }
 
-    /// A whole reading with a workspace of dirt, and everything that holds of it whatever it
+    /// A whole reading with a workspace of dirt, and everything that holds for it whatever it
     /// answers.
     fn read(&mut self, form: Form, text: &[u8], n: usize, workspace: usize, room: usize) -> Verdict<Answer> {
         let w = self.workspace(workspace);
@@ -196,7 +198,7 @@ impl Judge {
         Ok(a)
     }
 
-    /// New dirt at the front of the large workspace and here and there.
+    /// New dirt at the front of the large workspace and at some other places.
     fn soil(&mut self) {
         let length = self.r.of(&[0, 0, 64, 512, 4096]);
         let from = self.r.below(self.dirt.len() - length);
@@ -234,8 +236,8 @@ impl Judge {
         Ok(a)
     }
 
-    /// What every whole call keeps to: 1 to 5 as document 01 orders them, places in bounds, no
-    /// counts beside a refusal.
+    /// What holds for every whole call: 1 to 5 in the order of document 01, places in bounds, no
+    /// counts with a refusal.
     fn judge_whole(
         &self,
         call: Call,
@@ -264,7 +266,7 @@ impl Judge {
         }
     }
 
-    /// A stopped call and, where it is accepted, its stack in `self.stack`.
+    /// A stopped call and, if it is accepted, its stack in `self.stack`.
     fn stopped(&mut self, call: Call, form: Form, text: &[u8], n: usize, k: usize, room: usize) -> Verdict<Answer> {
         let workspace = self.enough(call, n);
         let most = n == MOST;
@@ -305,7 +307,7 @@ impl Judge {
     }
 
     /// Reading and check stopped after k, with the same room: the same answer and the same stack.
-    /// Answers it and the stack.
+    /// Returns the answer and the stack.
     fn both_stopped(&mut self, form: Form, text: &[u8], n: usize, k: usize, room: usize) -> Verdict<Stopped> {
         let a = self.stopped(Call::Reading, form, text, n, k, room)?;
         let stack = self.stack[..a.length as usize].to_vec();
@@ -317,9 +319,9 @@ impl Judge {
         Ok((a, stack))
     }
 
-    /// Whole reading and whole check with a ceiling, held against each other, against the Rust's
-    /// text and against the check with N = 65,536: accepted where its charged total fits, else 7; a
-    /// refusal stays or becomes 7 at no later place. Returns the reading's answer and the check's.
+    /// Whole reading and whole check with a ceiling, compared with each other, with the Rust's text
+    /// and with the check at N = 65,536: accepted if its charged total fits, otherwise 7; a refusal
+    /// is the same or becomes 7 at no later place. Returns the reading's answer and the check's.
     fn both_whole(&mut self, form: Form, text: &[u8], rust: &Rust, at_most: Answer, n: usize, room: usize) -> Verdict<(Answer, Answer)> {
         let w = self.enough(Call::Reading, n);
         let a = self.read(form, text, n, w, room)?;
@@ -345,7 +347,7 @@ impl Judge {
         Ok((a, c))
     }
 
-    /// All of it for one text. Answers the number at N = 65,536.
+    /// All of this for one text. Returns the number at N = 65,536.
     pub fn judge(&mut self, form: Form, text: &[u8], rust: &Rust) -> Verdict<u64> {
         // the whole reading at the Rust's ceiling: its acceptance and its text
         let room = match rust {
@@ -459,8 +461,8 @@ impl Judge {
     }
 
     /// Reading and check with the ceiling of the program `names`: whole, and stopped after every k
-    /// until the run is refused or the body's end is reached. A larger k then changes nothing, and
-    /// that end is the one of the whole check. Returns the number of the whole reading.
+    /// until the run is refused or the end of the body is reached. A larger k then changes nothing,
+    /// and that end is the end of the whole check. Returns the number of the whole reading.
     pub fn every_k(&mut self, form: Form, text: &[u8], rust: &Rust) -> Verdict<u64> {
         let at_most = self.check_at_most(form, text)?;
         let (read, checked) = self.both_whole(form, text, rust, at_most, NAMES_CEILING, NAMES_ROOM)?;
@@ -495,14 +497,14 @@ impl Judge {
     }
 }
 
-/// Whether the instrumented copy of the Rust answers for a text: the Rust itself must, and the text
-/// be one that our calls read.
+/// Whether the instrumented copy of the Rust can answer for a text: the Rust itself must answer,
+/// and our calls must read the text.
 pub fn has_numbers(text: &[u8], rust: &Rust) -> bool {
     cfg!(oracle) && matches!(rust, Rust::Text(_) | Rust::None) && text.len() <= MOST_TEXT
 }
 
-/// A run that the instrumented copy of the Rust makes too: its ceiling, after how many turns it is
-/// stopped, and the room for its stack.
+/// A run that the instrumented copy of the Rust also makes: its ceiling, the number of turns after
+/// which it is stopped, and the room for its stack.
 #[derive(Debug)]
 struct Run {
     n: usize,

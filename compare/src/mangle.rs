@@ -1,8 +1,9 @@
-//! Trees of operators, and how a compiler spells one: each operator behind what it takes, with substitutions (`A`), words (`0`) and
-//! repeats (`S2i`, `A2B`) where they serve.
+//! Trees of operators, and how a compiler spells one: each operator after what it takes, with
+//! substitutions (`A`), words (`0`) and repeats (`S2i`, `A2B`) where they apply.
 //!
-//! Written from document 01: what is remembered, which words are kept and how indices are spelled. A tree stands for what the text puts
-//! on the stack; two trees are the same node where their plain spelling is the same.
+//! Written from document 01: what is remembered, which words are kept and how indices are spelled.
+//! A tree represents what the text puts on the stack; two trees are the same node if their plain
+//! spelling is the same.
 
 use crate::random::Random;
 
@@ -10,9 +11,9 @@ use crate::random::Random;
 pub enum Tree {
     /// An identifier.
     Name(String),
-    /// An identifier kept in its punycode form, with a `_` behind its length or without.
+    /// An identifier kept in its punycode form, with or without a `_` after its length.
     Coded(String, bool),
-    /// An operator's letters behind its parts.
+    /// The letters of an operator, after its parts.
     Op(Op),
 }
 
@@ -75,7 +76,7 @@ impl Tree {
         s
     }
 
-    /// Every operator's letters in the tree.
+    /// The letters of every operator in the tree.
     pub fn operators<'a>(&'a self, to: &mut Vec<&'a str>) {
         if let Tree::Op(o) = self {
             for part in &o.parts {
@@ -86,7 +87,7 @@ impl Tree {
     }
 }
 
-/// What the last operator was, where the next may join it.
+/// The last operator, if the next may be joined to it.
 #[derive(Clone, Copy)]
 enum Last {
     Other,
@@ -99,7 +100,7 @@ enum Last {
 pub struct Mangler<'r> {
     pub text: Vec<u8>,
     r: &'r mut Random,
-    /// Of a hundred chances to substitute, repeat or join, how many are taken.
+    /// How many of a hundred chances to substitute, repeat or join are taken.
     thrift: usize,
     remembered: Vec<String>,
     words: Vec<Vec<u8>>,
@@ -189,7 +190,7 @@ impl<'r> Mangler<'r> {
         self.text.push(letter);
     }
 
-    /// An identifier, with letters for words that are known.
+    /// An identifier, with letters for the words that are known.
     fn spell(&mut self, name: &[u8]) {
         self.last = Last::Other;
         // (start, end, its letter) of each word to be spelled by a letter

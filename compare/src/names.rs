@@ -1,5 +1,5 @@
-//! The list of names that the bench reads: names as shipped binaries have them, each once, all read by the Rust at a ceiling of 256 and,
-//! where Swift's own demangler is asked too, by it.
+//! The list of names that the bench reads: names like those of shipped binaries, each once, all
+//! read by the Rust at a ceiling of 256 and, if Swift's own demangler is also asked, by it.
 
 use crate::grammar::{Grammar, Profile};
 use std::collections::HashSet;

@@ -1,5 +1,5 @@
 //! How often each operator of the Rust occurs in the names of standard input that the Rust reads,
-//! for compare/declared: an operator a line, tab, how often.
+//! for compare/declared: one line for each operator, with a tab and its count.
 
 mod grammar;
 mod mangle;

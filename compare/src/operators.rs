@@ -1,14 +1,14 @@
-//! A name's operators one by one, as they are spelled in it; for names that the Rust reads.
+//! The operators of a name one by one, as they are spelled in it; for names that the Rust reads.
 
 use crate::grammar;
 
-/// What is left of a symbol without its prefix and its suffix.
+/// A symbol without its prefix and its suffix.
 pub fn body_of(symbol: &str) -> Option<&str> {
     let rest = ["_$s", "$s", "_$S", "$S"].iter().find_map(|prefix| symbol.strip_prefix(prefix))?;
     rest.split('.').next()
 }
 
-/// The operators of a body; None where the body ends in the middle of one.
+/// The operators of a body; None if the body ends in the middle of one.
 pub fn operators_of(body: &str) -> Option<Vec<&str>> {
     let mut cursor = Cursor { body: body.as_bytes(), at: 0 };
     let mut all = Vec::new();
@@ -52,7 +52,7 @@ impl Cursor<'_> {
         there
     }
 
-    /// Past `count` bytes.
+    /// Skips `count` bytes.
     fn skip(&mut self, count: usize) -> Option<()> {
         self.at = self.at.checked_add(count)?;
         (self.at <= self.body.len()).then_some(())
@@ -112,7 +112,7 @@ impl Cursor<'_> {
         self.index()
     }
 
-    /// A literal of a name: its length and so many bytes.
+    /// A literal of a name: its length and that many bytes.
     fn literal(&mut self) -> Option<()> {
         let length = self.number()?;
         self.skip(length)
@@ -131,7 +131,7 @@ impl Cursor<'_> {
         self.literal()
     }
 
-    /// Letters of words and literals, up to `0` or to the literal after the capital.
+    /// Word letters and literals, up to `0` or to the literal after the capital.
     fn words(&mut self) -> Option<()> {
         let mut more = true;
         while more {

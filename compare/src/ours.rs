@@ -20,7 +20,7 @@ pub enum Call {
     Check,
 }
 
-/// Numbers of 32 bits that a call wants for each node of its ceiling.
+/// The number of 32-bit numbers that a call needs for each node of its ceiling.
 pub fn numbers_a_node(call: Call) -> usize {
     match call {
         Call::Reading => 64,
@@ -48,7 +48,7 @@ impl Answer {
     }
 }
 
-/// What stands in an answer before the call: each call writes all six.
+/// The contents of an answer before the call: each call writes all six.
 const DIRT: [u64; 6] = [0xDEAD_BEEF_0000_0001; 6];
 
 pub fn read(form: Form, text: &[u8], n: usize, w: &mut [u32], out: &mut [u8]) -> Answer {

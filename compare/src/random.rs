@@ -16,7 +16,7 @@ impl Random {
         z ^ (z >> 31)
     }
 
-    /// A number below `n`; 0 where `n` is 0.
+    /// A number below `n`; 0 if `n` is 0.
     pub fn below(&mut self, n: usize) -> usize {
         if n == 0 {
             return 0;
@@ -24,7 +24,7 @@ impl Random {
         ((self.next() as u128 * n as u128) >> 64) as usize
     }
 
-    /// Whether one of `hundred` chances in a hundred came up.
+    /// True with a probability of `hundred` in a hundred.
     pub fn chance(&mut self, hundred: usize) -> bool {
         self.below(100) < hundred
     }
@@ -37,7 +37,7 @@ impl Random {
         letters.as_bytes()[self.below(letters.len())] as char
     }
 
-    /// The place of one of the weights, drawn by weight.
+    /// The index of one of the weights, drawn by weight.
     pub fn weighted(&mut self, weights: &[usize]) -> usize {
         let mut at = self.below(weights.iter().sum());
         for (i, w) in weights.iter().enumerate() {

@@ -1,7 +1,7 @@
 //! Compares our calls with the Rust source, unchanged, on the names of real binaries (compare/real
-//! builds and starts it): each name as a symbol; where it names a type's metadata, that type; and
+//! builds and starts it): each name as a symbol; if it names the metadata of a type, that type; and
 //! each of these again with one byte changed. Numbers, places, counts and stacks are compared with
-//! the instrumented copy of the Rust, on all texts that are unchanged and on a share of the others.
+//! the instrumented copy of the Rust, on all unchanged texts and on a share of the others.
 
 mod judge;
 mod ours;
@@ -18,14 +18,14 @@ use std::sync::atomic::AtomicU64;
 use workers::{add, by_number, get, number, Comparison, Options, Outcome, Text};
 
 const CHANGES: usize = 10;
-/// What a byte is drawn from in three cases of four.
+/// The bytes from which a byte is drawn in three of four cases.
 const USUAL: &[u8] = b"ABCDEFGHIJKLMNOPQRSTUVWXYZabcdefghijklmnopqrstuvwxyz0123456789_.$";
 
 /// The texts, in rounds: first all names and types unchanged, then all of them with their first
 /// change, and so on.
 struct Real {
     names: Vec<Vec<u8>>,
-    /// The numbers of the names of a type's metadata.
+    /// The numbers of the names of the metadata of a type.
     types: Vec<usize>,
     changes: usize,
     seed: u64,
@@ -58,7 +58,7 @@ impl Real {
     }
 }
 
-/// The type of which this is the metadata (`N`), its accessor (`Ma`) or the descriptor (`Mn`).
+/// The type whose metadata (`N`), accessor (`Ma`) or descriptor (`Mn`) this is.
 fn type_of(name: &[u8]) -> Option<&[u8]> {
     let body = ["$s", "$S", "_$s", "_$S"].iter().find_map(|prefix| name.strip_prefix(prefix.as_bytes()))?;
     ["Mn", "Ma", "N"].iter().find_map(|end| body.strip_suffix(end.as_bytes()))
@@ -69,7 +69,7 @@ fn random_of(seed: u64, form: Form, name: usize, change: usize) -> Random {
     [form as u64, name as u64, change as u64].iter().fold(Random::new(seed), |mut r, part| Random::new(r.next() ^ part))
 }
 
-/// The text with one byte replaced by another, left out or put in.
+/// The text with one byte replaced by another, left out or inserted.
 fn changed(text: &[u8], r: &mut Random) -> Vec<u8> {
     let mut bytes = text.to_vec();
     let at = r.below(bytes.len());

@@ -1,4 +1,5 @@
-//! What the processes of a comparison share: counters, what each worker is at, and the text that differs.
+//! What the processes of a comparison share: counters, the current work of each worker, and the
+//! text that differs.
 
 use std::sync::atomic::{AtomicU64, AtomicU8, AtomicUsize, Ordering::Relaxed, Ordering::SeqCst};
 
@@ -15,7 +16,7 @@ extern "C" {
 }
 
 pub const WORKERS: usize = 64;
-/// How many counters a program has for what only it counts.
+/// The number of counters that a program has for what only it counts.
 pub const OWN: usize = 256;
 const TEXT: usize = 1 << 17;
 
@@ -32,7 +33,7 @@ pub enum Phase {
 pub struct Worker {
     /// 4 × the text's number, plus the phase.
     at: AtomicU64,
-    /// Turns made: it moves as long as the worker does.
+    /// The number of turns made. It changes as long as the worker makes progress.
     turns: AtomicU64,
 }
 
@@ -43,7 +44,7 @@ pub struct Counts {
     pub read_by_rust: AtomicU64,
     pub none_by_rust: AtomicU64,
     pub not_asked: AtomicU64,
-    /// Texts of which numbers, places, counts and stacks were compared too.
+    /// Texts for which numbers, places, counts and stacks were also compared.
     pub with_numbers: AtomicU64,
     pub panicked: AtomicU64,
     pub numbers: [AtomicU64; 13],
@@ -91,7 +92,7 @@ impl Shared {
         self.me().turns.fetch_add(1, Relaxed);
     }
 
-    /// What this process is at.
+    /// The current work of this process.
     pub fn here(&self) -> (u64, Phase, u64) {
         self.at(unsafe { ME })
     }
@@ -101,7 +102,7 @@ impl Shared {
         (at / 4, [Phase::Idle, Phase::Rust, Phase::Ours, Phase::Instrumented][(at % 4) as usize], self.workers[worker].turns.load(SeqCst))
     }
 
-    /// Notes a text that differs, the first one only.
+    /// Notes a text that differs, only the first one.
     pub fn difference(&self, form: usize, text: &[u8], say: &str) {
         if self.differs.compare_exchange(0, 1, SeqCst, SeqCst).is_err() {
             return;
@@ -126,14 +127,14 @@ impl Shared {
     }
 }
 
-/// Keeps as much as there is room for, and answers how much that is.
+/// Keeps as much as there is room for, and returns how much that is.
 fn keep(to: &[AtomicU8], bytes: &[u8]) -> usize {
     to.iter().zip(bytes).for_each(|(to, b)| to.store(*b, Relaxed));
     bytes.len().min(to.len())
 }
 
-/// Runs `work` in a process of its own, as this worker, with a large stack and a bound on memory, and with no standard error: the Rust
-/// tells there of each failure. Its status is 0 where it ends.
+/// Runs `work` in a separate process, as this worker, with a large stack and a bound on memory, and
+/// with no standard error, because the Rust reports each failure there. Its status is 0 if it ends.
 pub fn start(worker: usize, most_memory: u64, work: impl FnOnce() + Send) -> i32 {
     unsafe {
         let pid = fork();
@@ -158,7 +159,7 @@ pub fn start(worker: usize, most_memory: u64, work: impl FnOnce() + Send) -> i32
     }
 }
 
-/// What became of a process.
+/// How a process ended.
 #[derive(Clone, Copy, PartialEq, Eq, Debug)]
 pub enum End {
     Running,

@@ -1,5 +1,5 @@
 //! Swift 6's own demangler: the function `swift_demangle` that libswiftCore.so exports, found at
-//! run time. The program must run with Swift's libraries within its reach: by bin/in-swift of the
+//! run time. The program must run with access to Swift's libraries, through bin/in-swift of the
 //! folder that compare/swift/fetch sets up.
 
 use std::ffi::{c_char, c_void, CStr};
@@ -16,7 +16,7 @@ pub struct Six {
     /// Swift's version.
     pub version: String,
     call: SwiftDemangle,
-    /// Memory for texts: more than any name of a list takes, since the function writes past a
+    /// Memory for texts: more than any name of a list needs, because the function writes past a
     /// buffer that is too small.
     out: Vec<u8>,
 }
@@ -38,8 +38,8 @@ impl Six {
         }
     }
 
-    /// Calls it for one name, after which a NUL must be stored. Returns the first byte of what it
-    /// writes: nothing more is looked at while time is taken.
+    /// Calls it for one name, which must be followed by a NUL. Returns the first byte of what it
+    /// writes: nothing more is read while time is measured.
     pub fn call(&mut self, name: &str) -> u8 {
         let mut room = self.out.len();
         let text = unsafe { (self.call)(name.as_ptr().cast(), name.len(), self.out.as_mut_ptr().cast(), &mut room, 0) };
@@ -49,7 +49,7 @@ impl Six {
         self.out[0]
     }
 
-    /// Whether it reads a name: one that it does not read is given back as it is.
+    /// Whether it reads a name: a name that it does not read is returned unchanged.
     pub fn reads(&mut self, name: &str) -> bool {
         self.call(name) != 0 && CStr::from_bytes_until_nul(&self.out).is_ok_and(|text| text.to_bytes() != name.as_bytes())
     }

@@ -1,7 +1,9 @@
-//! The texts of the comparison: each is a function of the seed and its number, so that a run can be taken up anywhere.
+//! The texts of the comparison. Each is a function of the seed and its number, so that a run can be
+//! resumed anywhere.
 //!
-//! First every text of up to three characters over ALPHABET, as type and as symbol; then the boundaries of every limit; then names of the
-//! grammar, such names with changes, and operators in any order.
+//! First every text of up to three characters over ALPHABET, as type and as symbol; then the
+//! boundaries of every limit; then names of the grammar, such names with changes, and operators in
+//! any order.
 
 use crate::grammar::{self, Grammar, Profile};
 use crate::mangle::Tree;
@@ -14,7 +16,7 @@ pub const ALPHABET: &str = "ABCDEFGHIJKLMNOPQRSTUVWXYZabcdefghijklmnopqrstuvwxyz
 pub struct Text {
     pub bytes: Vec<u8>,
     pub form: Form,
-    /// Of a name that the grammar made and nothing changed: its tree.
+    /// For a name that the grammar made and that is unchanged: its tree.
     pub tree: Option<Tree>,
 }
 
@@ -31,7 +33,7 @@ impl Texts {
         Texts { seed, shorts: 1 + n + n * n + n * n * n, boundaries: boundaries(), tokens: tokens() }
     }
 
-    /// How many texts come before those drawn at random.
+    /// The number of texts before those that are drawn at random.
     pub fn listed(&self) -> usize {
         2 * self.shorts + self.boundaries.len()
     }
@@ -68,7 +70,7 @@ impl Texts {
         plain(form, bytes)
     }
 
-    /// Operators in any order, those that take nothing more often.
+    /// Operators in any order; those that take nothing are more frequent.
     fn operators(&self, r: &mut Random) -> Vec<u8> {
         let count = r.of(&[1, 2, 3, 4, 6, 8, 12, 20, 40]);
         let mut bytes = Vec::new();
@@ -79,7 +81,8 @@ impl Texts {
         bytes
     }
 
-    /// One change: a part left out, doubled, moved or put in, a byte or a number replaced, two names joined, the end cut off.
+    /// One change: a part left out, doubled, moved or inserted, a byte or a number replaced, two
+    /// names joined, the end cut off.
     fn changed(&self, g: &mut Grammar, mut b: Vec<u8>) -> Vec<u8> {
         let (mut from, mut to) = (g.r.below(b.len() + 1), g.r.below(b.len() + 1));
         if from > to {
@@ -143,7 +146,7 @@ fn with_prefix(form: Form, bytes: Vec<u8>) -> Vec<u8> {
     }
 }
 
-/// The text of up to three characters that has this number.
+/// The text of up to three characters with this number.
 fn short(mut i: usize) -> String {
     let all: Vec<char> = ALPHABET.chars().collect();
     let mut text = String::new();
@@ -168,13 +171,13 @@ fn named(g: &mut Grammar) -> (Form, Option<Tree>, Vec<u8>) {
     (Form::Symbol, Some(tree), bytes)
 }
 
-/// Operators that take nothing from the stack, and short runs that leave one node.
+/// Operators that take nothing from the stack, and short sequences that leave one node.
 const MAKERS: [&str; 34] = [
     "y", "_", "d", "K", "Ya", "x", "q_", "q0_", "qd__", "Si", "SS", "Sb", "Sa", "SD", "Sq", "SH", "SQ", "S2i", "S3S", "s", "So", "SC",
     "Xl", "1a", "4main", "3Foo", "7FooItem", "0A0", "0B3Bar", "AA", "AB", "AC", "Ab", "A2a",
 ];
 
-/// Every operator with an operand or none, and operands that stand at a rule's edge.
+/// Every operator with an operand or none, and operands at the edge of a rule.
 fn tokens() -> Vec<String> {
     let mut all: Vec<String> = grammar::every_operator().into_iter().filter(|o| !["q", "r"].contains(&&o[..])).collect();
     for o in ["Rg", "Qy", "Qd", "Rp", "Rb", "Rc", "Rs", "Rt", "Rl", "Rm", "TY"] {
@@ -217,7 +220,7 @@ pub const NUMBERS: [&str; 27] = [
     "18446744073709551616",
 ];
 
-/// A number of the text replaced by one at an edge, or raised or lowered by one.
+/// A number of the text replaced by one at an edge, or increased or decreased by one.
 fn number_changed(r: &mut Random, b: &mut Vec<u8>) {
     let starts: Vec<usize> = (0..b.len()).filter(|&i| b[i].is_ascii_digit() && (i == 0 || !b[i - 1].is_ascii_digit())).collect();
     if starts.is_empty() {
@@ -240,7 +243,7 @@ fn around(n: usize) -> std::ops::RangeInclusive<usize> {
     n - 2..=n + 2
 }
 
-/// Names `A`.. that are words of their own and all different, so many.
+/// That many names `A`.., which are words of their own and all different.
 fn words(count: usize) -> String {
     (0..count).map(|i| format!("3A{}{}", (b'a' + (i / 26) as u8) as char, (b'a' + (i % 26) as u8) as char)).collect()
 }
@@ -291,7 +294,7 @@ fn boundaries() -> Vec<(Form, Vec<u8>)> {
         add(format!("Si{}1a1byylF", "m".repeat(n - 2)));
         add(format!("1a1bSi{}lxvp", "m".repeat(n - 1)));
     }
-    // 256 counts behind r
+    // 256 counts after r
     for n in around(256) {
         for unit in ["z", "_", "0_", "1_"] {
             for back in ["l", "", "x", "lx", "5"] {
@@ -332,7 +335,7 @@ fn boundaries() -> Vec<(Form, Vec<u8>)> {
         add(format!("Si{}", "Sg".repeat(n)));
         add(format!("Say{}Si{}", "Say".repeat(n - 1), "G".repeat(n)));
     }
-    // 2^64 in each place where a number stands
+    // 2^64 in each place of a number
     for base in
         ["18446744073709551615", "9223372036854775807", "4294967295", "384307168202282325", "184467440737095516", "99999999999999999999"]
     {
@@ -448,7 +451,7 @@ fn boundaries() -> Vec<(Form, Vec<u8>)> {
         list.push((Form::Type, body.clone().into_bytes()));
         list.push((Form::Symbol, with_prefix(Form::Symbol, body.into_bytes())));
     }
-    // prefixes, suffixes, and bytes that are no UTF-8
+    // prefixes, suffixes, and bytes that are not UTF-8
     let mut symbol = |b: &[u8]| {
         list.push((Form::Symbol, b.to_vec()));
         list.push((Form::Type, b.to_vec()));

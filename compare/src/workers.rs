@@ -1,14 +1,14 @@
 //! The processes that judge the texts of a comparison, and the one that watches them: what the
 //! programs `compare` and `real` share.
 //!
-//! Workers are processes. What the Rust itself cannot do is told by what becomes of it, and counted
-//! apart:
+//! Workers are processes. Where the Rust itself fails is known from what happens to its process,
+//! and is counted separately:
 //! - it panics (caught);
 //! - its process ends, out of memory (more than MOST_MEMORY) or out of call stack (512 MB);
 //! - it is not done after MOST_SECONDS.
-//! Our own answers on such a text are still held against each other. A process that ends, or is
-//! not done, while it is in one of our calls, or in the instrumented copy where the Rust itself
-//! answers, is a difference.
+//! Our own answers on such a text are still compared with each other. If a process ends, or is not
+//! done, while it is in one of our calls, or in the instrumented copy where the Rust itself
+//! answers, this is a difference.
 
 use crate::judge::{self, Judge, Rust, Verdict};
 use crate::ours::Form;
@@ -21,10 +21,11 @@ use std::time::{Duration, Instant};
 const MOST_MEMORY: u64 = 3 << 30;
 const MOST_SECONDS: u64 = 10;
 /// Of the texts that are drawn, each whose number is a multiple of this is compared with numbers.
-/// It divides no usual count of workers, so that they, who take turns, have as many of them each.
+/// It divides no usual count of workers. Workers take turns, so each has the same number of such
+/// texts.
 const NUMBERS_EVERY: usize = 7;
 
-/// A text, and what its program knows of it when it is counted.
+/// A text, and what its program knows about it when it is counted.
 pub struct Text<Known> {
     pub form: Form,
     pub bytes: Vec<u8>,
@@ -35,18 +36,18 @@ pub struct Text<Known> {
 pub trait Comparison: Sync {
     /// The command that starts the program: a difference is reported as this command with one text.
     const COMMAND: &'static str;
-    /// What the program knows of a text.
+    /// What the program knows about a text.
     type Known;
 
     /// Judges one text. Returns the number of our answer that is counted.
     fn judge(judge: &mut Judge, form: Form, text: &[u8], rust: &Rust) -> Verdict<u64>;
-    /// How many texts there are.
+    /// The number of texts.
     fn total(&self) -> usize;
-    /// How many come before those that are drawn; they are all compared with numbers.
+    /// The number of texts before those that are drawn; they are all compared with numbers.
     fn listed(&self) -> usize;
     /// The text of this number: the same each time.
     fn at(&self, i: usize) -> Text<Self::Known>;
-    /// Counts what only this program counts of a text that was judged.
+    /// Counts what only this program counts about a text that was judged.
     fn count(&self, shared: &Shared, i: usize, text: &Text<Self::Known>, rust: &Rust, number: u64);
 }
 
@@ -57,13 +58,13 @@ pub struct Options {
     pub seed: u64,
     workers: usize,
     numbers_every: usize,
-    /// One text that is judged in place of all.
+    /// One text that is judged instead of all.
     pub one: Option<(Form, Vec<u8>)>,
 }
 
 impl Options {
-    /// Those of the command line; `own` is given the name and the value of each that is not one of
-    /// them. None where an option is not known or has no value that it can have.
+    /// The options of the command line. `own` is given the name and the value of each option that
+    /// is not one of them. None if an option is unknown or its value is not allowed.
     pub fn of_command_line(mut own: impl FnMut(&str, &str) -> Option<()>) -> Option<Options> {
         let workers = std::thread::available_parallelism().map_or(1, |n| n.get());
         let mut o = Options { seed: 1, workers, numbers_every: NUMBERS_EVERY, one: None };
@@ -87,7 +88,7 @@ pub fn number(value: &str) -> Option<usize> {
     value.replace([',', '_'], "").parse().ok()
 }
 
-/// A text with bytes as `\xNN`, which a shell takes as it is between single quotes.
+/// A text with bytes as `\xNN`, which a shell takes literally between single quotes.
 fn escaped(text: &[u8]) -> String {
     let plain = |b: u8| (b.is_ascii_graphic() || b == b' ') && b != b'\\' && b != b'\'';
     text.iter().map(|&b| if plain(b) { (b as char).to_string() } else { format!("\\x{b:02x}") }).collect()
@@ -127,7 +128,8 @@ pub fn by_number(counts: &[AtomicU64]) -> String {
 /// What is counted where the workers are watched, and the lines about it and about their counts.
 pub struct Outcome {
     shared: &'static Shared,
-    /// On how many texts the Rust ended its process, and on how many it was not done.
+    /// The number of texts on which the Rust ended its process, and the number on which it was not
+    /// done.
     died: u64,
     slow: u64,
     begun: Instant,
@@ -177,7 +179,7 @@ impl Outcome {
 
 // Workers
 
-/// A process stands still where it made no turn for so long.
+/// A process is stalled if it made no turn for this long.
 struct Watch {
     turns: u64,
     since: Instant,
@@ -201,7 +203,7 @@ struct Process {
     watch: Watch,
 }
 
-/// A comparison at work.
+/// A running comparison.
 struct Work<'a, C> {
     comparison: &'a C,
     options: &'a Options,
@@ -251,8 +253,8 @@ impl<C: Comparison> Work<'_, C> {
         }
     }
 
-    /// Looks at a worker's process. Returns it while it runs, none when it is done, and a new one
-    /// in its place where the Rust failed in it.
+    /// Checks the process of a worker. Returns it while it runs, none when it is done, and a new
+    /// one in its place if the Rust failed in it.
     fn looked_after(&self, worker: usize, mut process: Process, outcome: &mut Outcome) -> Option<Process> {
         let end = shared::end_of(process.pid);
         let (at, phase, turns) = self.shared.at(worker);
@@ -281,7 +283,7 @@ fn form_of(number: usize) -> Form {
     [Form::Symbol, Form::Type][number]
 }
 
-/// What is said of a process that ended, or is not done, while it was not in the Rust itself.
+/// The report about a process that ended, or is not done, while it was not in the Rust itself.
 fn failure(phase: Phase, still: bool) -> String {
     let who = if phase == Phase::Instrumented { "the instrumented Rust" } else { "our call" };
     format!("{who} {}", if still { "is not done" } else { "ended the process" })
@@ -333,7 +335,7 @@ pub fn compare<C: Comparison>(comparison: &C, options: &Options, shared: &'stati
 
 // One text
 
-/// Judges one text and says what differs. Ends the program with exit status 1 where something does.
+/// Judges one text and reports what differs. Ends the program with exit status 1 if something does.
 pub fn judge_one<C: Comparison>(shared: &'static Shared, form: Form, text: &[u8]) {
     match differs::<C>(shared, form, text) {
         None => println!("no difference"),
@@ -344,7 +346,7 @@ pub fn judge_one<C: Comparison>(shared: &'static Shared, form: Form, text: &[u8]
     }
 }
 
-/// Judges one text in a process of its own, several times with other choices. Returns what differs,
+/// Judges one text in a separate process, several times with other choices. Returns what differs,
 /// if anything does.
 fn differs<C: Comparison>(shared: &'static Shared, form: Form, text: &[u8]) -> Option<String> {
     shared.forget();
@@ -406,7 +408,7 @@ struct Differing<'a> {
 }
 
 impl Differing<'_> {
-    /// Makes it as small as it gets by names of one letter and by leaving out bytes.
+    /// Makes it as small as possible by using names of one letter and by leaving out bytes.
     fn make_small(&mut self) {
         let mut length = usize::MAX;
         while self.text.len() < length {
@@ -416,7 +418,7 @@ impl Differing<'_> {
         }
     }
 
-    /// Takes a smaller text in its place if that differs too. Returns whether it does.
+    /// Replaces it by a smaller text if that differs too. Returns whether it does.
     fn take(&mut self, less: Vec<u8>) -> bool {
         let again = (self.differs)(&less);
         let differs = again.is_some();
@@ -458,7 +460,8 @@ impl Differing<'_> {
     }
 }
 
-/// The text with the name at this place, a number and so many bytes, as one of one letter.
+/// The text with the name at this place, a number and that many bytes, replaced by a name of one
+/// letter.
 fn with_short_name(text: &[u8], at: usize) -> Option<Vec<u8>> {
     let digits = text[at..].iter().take_while(|b| b.is_ascii_digit()).count();
     let length: usize = std::str::from_utf8(&text[at..at + digits]).ok()?.parse().ok()?;

@@ -1,7 +1,7 @@
-/* A program that has both in it: our calls, linked from the archives, and Swift's own runtime
- * library, which exports a function `swift_demangle`. Calls all of ours, each by a pointer of the
- * type that it is to have, reads some names by both and compares the texts; ./beside builds and
- * runs it. */
+/* A program that contains both our calls, linked from the archives, and Swift's own runtime
+ * library, which exports a function `swift_demangle`. It calls all of ours, each through a pointer
+ * of the type that it must have, reads some names with both and compares the texts. ./beside builds
+ * and runs it. */
 #include "cepruvels.h"
 
 #include <stdio.h>
@@ -38,8 +38,8 @@ static int is(const uint64_t *answer, uint64_t steps, uint64_t total, uint64_t w
            answer[CEPRUVELS_ANSWER_WRAPS] == wraps && answer[CEPRUVELS_ANSWER_LENGTH] == length;
 }
 
-/* The text by our reading; the check must give the same counts, and both stopped at the end the same
- * stack of one entry. */
+/* The text from our reading. The check must give the same counts, and both, stopped at the end, the
+ * same stack of one entry. */
 static const char *ours(struct calls calls, const char *name) {
     static uint8_t out[ROOM];
     const uint8_t *text = (const uint8_t *)name;
@@ -67,7 +67,7 @@ static const char *swifts(const char *name) {
     return swift_demangle(name, strlen(name), out, &room, 0) ? out : "(none)";
 }
 
-/* Prints a name and its text. Returns whether the text is the one that it must be. */
+/* Prints a name and its text. Returns whether the text is the expected one. */
 static int as(const char *name, const char *text, const char *must) {
     int same = strcmp(text, must) == 0;
     printf("%s: %s%s%s\n", name, text, same ? "" : ", and it must be ", same ? "" : must);

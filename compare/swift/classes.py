@@ -1,15 +1,15 @@
 """What ./differences and ./real-differences share: rewritings of a text, the search for the
 smallest set of classes that explains a difference, and the count of names that show a class.
 
-A class is a tuple: what it is called, whether it can be meant (a function of the name and both
-texts), and how each text is rewritten (functions of the name and the text). A name is whatever its
-command makes of a symbol; here only its `symbol` is asked for.
+A class is a tuple: its name, whether it can apply (a function of the name and both texts), and how
+each text is rewritten (functions of the name and the text). A name is whatever its command makes of
+a symbol; here only its `symbol` is used.
 """
 import itertools
 import re
 
 NOTHING = "(none)"
-MOST_CLASSES = 6  # no difference is put down to more
+MOST_CLASSES = 6  # no difference is attributed to more
 
 
 # Rewritings
@@ -35,7 +35,7 @@ def swap(old, new):
 
 
 def punycode(code):
-    """Swift's punycode: letters for digits, `_` for the bar. None where it does not decode."""
+    """Swift's punycode: letters for digits, `_` for the bar. None if it does not decode."""
     base, _, rest = code.rpartition("_")
     points, n, i, bias, first = [ord(c) for c in base], 128, 0, 72, True
     at = 0
@@ -81,10 +81,10 @@ def decoded(name, text):
     return text
 
 
-# Classes but for their names, where a word of Swift's text tells them
+# Classes without their names, where a word of Swift's text identifies them
 
 def only_in_swift(word, *others):
-    """Swift prints a word, maybe beside others, that the other text does not have."""
+    """Swift prints a word, maybe with others, that the other text does not have."""
     return lambda name, ours, swift: word in swift, same, drop(*others, word)
 
 
@@ -94,7 +94,7 @@ def other_in_swift(word, ours):
 
 
 def smallest_set(classes, name, ours, swift):
-    """The smallest set of classes whose rewritings make the texts equal; None where no set does."""
+    """The smallest set of classes whose rewritings make the texts equal; None if no set does."""
     meant = [c for c in classes if c[1](name, ours, swift)]
     for size in range(1, MOST_CLASSES + 1):
         for some in itertools.combinations(meant, size):
@@ -135,11 +135,11 @@ class Tally:
 
 
 def cell(text):
-    """A text as a cell of a table, cut where it is long."""
+    """A text as a cell of a table, cut if it is long."""
     text = text.replace("|", "\\|")
     return "`%s`" % (text if len(text) <= 160 else text[:159] + "…")
 
 
 def cells(example):
-    """The cells of an example's symbol and texts; empty ones where there is no example."""
+    """The cells of the symbol and texts of an example; empty ones if there is no example."""
     return [cell(t) for t in example] if example else ["", "", ""]

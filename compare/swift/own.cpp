@@ -1,6 +1,6 @@
-// Swift's own demangler behind three C functions, for the bench and for the line filter below.
+// Swift's own demangler as three C functions, for the bench and for the line filter below.
 //
-// Built by ./build from Debian's package; nothing of Swift's source stands here.
+// Built by ./build from Debian's package; this file has nothing of Swift's source.
 #include "swift/Demangling/Demangle.h"
 #include "swift/Demangling/Demangler.h"
 
@@ -23,8 +23,9 @@ static long give(const std::string &text, char *out, size_t room) {
   return (long)text.size();
 }
 
-// The text of one symbol, its length, or -1 where Swift gives no tree or no text. At most `room` bytes are written.
-// One context is kept and emptied after each name, as a tool does that reads many names: the fastest way to call it.
+// The text of one symbol, its length, or -1 if Swift gives no tree or no text. At most `room` bytes
+// are written. One context is kept and emptied after each name, like a tool that reads many names:
+// the fastest way to call it.
 extern "C" long swift_own_demangle(const char *name, size_t length, char *out, size_t room) {
   static Context context;
   NodePointer root = context.demangleSymbolAsNode(llvm::StringRef(name, length));
@@ -38,13 +39,14 @@ extern "C" long swift_own_demangle(const char *name, size_t length, char *out, s
   return answer;
 }
 
-// The same by the one call that the library has for it, with a context of its own for each name.
+// The same, using the single call that the library has for it, with a separate context for each
+// name.
 extern "C" long swift_own_demangle_afresh(const char *name, size_t length, char *out, size_t room) {
   std::string text = demangleSymbolAsString(llvm::StringRef(name, length), options());
   return give(text, out, room);
 }
 
-// The tree alone, no text: 1 where there is one.
+// Only the tree, no text: 1 if there is one.
 extern "C" long swift_own_tree(const char *name, size_t length) {
   static Context context;
   NodePointer root = context.demangleSymbolAsNode(llvm::StringRef(name, length));
@@ -53,7 +55,7 @@ extern "C" long swift_own_tree(const char *name, size_t length) {
 }
 
 #ifdef FILTER
-// A line a name: `=`, tab, text; or `!`.
+// One line for each name: `=`, tab, text; or `!`.
 int main() {
   static char in[1 << 20], out[1 << 20];
   static char line[1 << 20], text[1 << 22];
@@ -79,7 +81,7 @@ int main() {
     }
     length = 0;
 #ifdef AT_ONCE
-    fflush(stdout); // an assertion that fails ends the process: what was read before it must be out
+    fflush(stdout); // a failed assertion ends the process: what was read before it must be written
 #endif
     if (c == EOF)
       break;

@@ -1,4 +1,5 @@
-//! Reads names from standard input, a line a name, and writes each name's text, or the line as it is where it is no Swift name:
+//! Reads names from standard input, one per line, and writes the text of each name, or the line
+//! itself if it is not a Swift name:
 //!
 //!     nm -j program | cargo run --release --example names
 

@@ -8,9 +8,10 @@
 //! assert_eq!(names.demangle("$sZ").unwrap_err().to_string(), "10 at 2: a node is missing from the stack or of the wrong kind");
 //! ```
 //!
-//! The eight functions [`demangle`], [`demangle_type`], [`shape`], [`shape_type`] and their `_stopped` forms are the proved calls themselves,
-//! on memory that the caller lends. Each is total: it answers for every text, ceiling and length. `include/cepruvels.h` says what they
-//! take, write and answer, and the repository's `crates/definition` what that means.
+//! The eight functions [`demangle`], [`demangle_type`], [`shape`], [`shape_type`] and their
+//! `_stopped` forms are the proved calls themselves, on memory that the caller lends. Each is
+//! total: it returns an answer for every text, ceiling and length. `include/cepruvels.h` says what
+//! they take, write and return, and the repository's `crates/definition` says what that means.
 
 use std::fmt;
 
@@ -27,19 +28,19 @@ pub enum Refusal {
     Length = 3,
     /// The text is not UTF-8.
     Encoding = 4,
-    /// A symbol has no prefix, or nothing behind it.
+    /// A symbol has no prefix, or nothing after it.
     Prefix = 5,
     /// A 4,097th operator.
     Steps = 6,
     /// More nodes charged than the ceiling allows.
     Charge = 7,
-    /// A 257th wrap, or a 257th count behind `r`.
+    /// A 257th wrap, or a 257th count after `r`.
     Nesting = 8,
-    /// A letter, number, index, word or literal breaks a rule, or the text stops inside an operator.
+    /// A letter, number, index, word or literal breaks a rule, or the text ends inside an operator.
     Spelling = 9,
     /// A node is missing from the stack or of the wrong kind.
     Stack = 10,
-    /// Not exactly one node is left, or it is a bare identifier; for a type, it is no type.
+    /// Not exactly one node is left, or it is a bare identifier; for a type, it is not a type.
     Leftover = 11,
     /// The text, or the stack of a stopped run, exceeds the output.
     Output = 12,
@@ -61,7 +62,7 @@ impl Refusal {
         Refusal::Output,
     ];
 
-    /// Document 01's number, 1 to 12.
+    /// The number of document 01, 1 to 12.
     pub fn number(self) -> u8 {
         self as u8
     }
@@ -86,7 +87,7 @@ impl fmt::Display for Refusal {
     }
 }
 
-/// A refused text: why, and at which byte of the text given.
+/// A refused text: the reason, and the byte of the given text at which it is refused.
 #[derive(Clone, Copy, Debug, PartialEq, Eq, Hash)]
 pub struct Refused {
     pub refusal: Refusal,
@@ -101,7 +102,7 @@ impl fmt::Display for Refused {
 
 impl std::error::Error for Refused {}
 
-/// What an accepted text cost.
+/// The cost of an accepted text.
 #[derive(Clone, Copy, Debug, PartialEq, Eq, Hash)]
 pub struct Counts {
     /// Operators read.
@@ -117,12 +118,12 @@ pub const MOST_CEILING: usize = 65_536;
 /// The longest text.
 pub const MOST_TEXT: usize = 65_535;
 
-/// Numbers of 32 bits that a reading with this ceiling wants.
+/// The number of 32-bit numbers that a reading with this ceiling needs.
 pub const fn reading_numbers(ceiling: usize) -> usize {
     64usize.saturating_mul(ceiling)
 }
 
-/// Numbers of 32 bits that a shape check with this ceiling wants.
+/// The number of 32-bit numbers that a shape check with this ceiling needs.
 pub const fn shape_numbers(ceiling: usize) -> usize {
     8usize.saturating_mul(ceiling)
 }
@@ -136,7 +137,8 @@ fn outcome(answer: [u64; 6]) -> Result<(Counts, usize), Refused> {
     }
 }
 
-/// Reads a symbol. The text is the part of `out` that is given back; nothing else of `out` is written, and nothing where it is refused.
+/// Reads a symbol. The text is the part of `out` that is returned. Nothing else of `out` is
+/// written, and nothing at all if the symbol is refused.
 pub fn demangle<'o>(text: &[u8], ceiling: usize, workspace: &mut [u32], out: &'o mut [u8]) -> Result<(Counts, &'o [u8]), Refused> {
     let (counts, length) = outcome(raw::read(raw::cepruvels_demangle, text, ceiling, workspace, out))?;
     Ok((counts, &out[..length]))
@@ -148,12 +150,13 @@ pub fn demangle_type<'o>(text: &[u8], ceiling: usize, workspace: &mut [u32], out
     Ok((counts, &out[..length]))
 }
 
-/// Checks a symbol's shape: it accepts and refuses as the reading does, with the same place and counts, and makes no text.
+/// Checks the shape of a symbol: it accepts and refuses like the reading, with the same place and
+/// counts, and makes no text.
 pub fn shape(text: &[u8], ceiling: usize, workspace: &mut [u32]) -> Result<Counts, Refused> {
     outcome(raw::check(raw::cepruvels_shape, text, ceiling, workspace)).map(|(counts, _)| counts)
 }
 
-/// Checks a type's shape.
+/// Checks the shape of a type.
 pub fn shape_type(text: &[u8], ceiling: usize, workspace: &mut [u32]) -> Result<Counts, Refused> {
     outcome(raw::check(raw::cepruvels_shape_type, text, ceiling, workspace)).map(|(counts, _)| counts)
 }
@@ -169,29 +172,31 @@ macro_rules! stopped {
 }
 
 stopped!(
-    /// Reads a symbol's first `k` operators, or all where there are fewer, and gives the stack, bottom first: kind, size and count of each entry.
+    /// Reads the first `k` operators of a symbol, or all if there are fewer, and returns the stack,
+    /// bottom first: kind, size and count of each entry.
     demangle_stopped,
     cepruvels_demangle_stopped
 );
 stopped!(
-    /// Reads a type's first `k` operators.
+    /// Reads the first `k` operators of a type.
     demangle_type_stopped,
     cepruvels_demangle_type_stopped
 );
 stopped!(
-    /// Checks the shape of a symbol's first `k` operators: the same stack as the reading's.
+    /// Checks the shape of the first `k` operators of a symbol: the stack is the same as the
+    /// reading's.
     shape_stopped,
     cepruvels_shape_stopped
 );
 stopped!(
-    /// Checks the shape of a type's first `k` operators.
+    /// Checks the shape of the first `k` operators of a type.
     shape_type_stopped,
     cepruvels_shape_type_stopped
 );
 
 type Reading = for<'o> fn(&[u8], usize, &mut [u32], &'o mut [u8]) -> Result<(Counts, &'o [u8]), Refused>;
 
-/// Readings with memory of their own, used again for each name.
+/// Readings with their own memory, which is used again for each name.
 pub struct Demangler {
     ceiling: usize,
     workspace: Vec<u32>,
@@ -206,23 +211,24 @@ impl Default for Demangler {
 }
 
 impl Demangler {
-    /// A ceiling of 256, which nearly all names of shipped binaries keep to (64 KB of workspace), and texts of up to 1 MB.
+    /// A ceiling of 256, which nearly all names of shipped binaries stay within (64 KB of
+    /// workspace), and texts of up to 1 MB.
     pub fn new() -> Demangler {
         Demangler::with(256, 1 << 20)
     }
 
-    /// A ceiling, which is brought within 1 to 65,536, and how long a text may be.
+    /// A ceiling, which is clamped to 1 to 65,536, and the greatest length of a text.
     pub fn with(ceiling: usize, longest_text: usize) -> Demangler {
         let ceiling = ceiling.clamp(1, MOST_CEILING);
         Demangler { ceiling, workspace: vec![0; reading_numbers(ceiling)], out: vec![0; longest_text.min(4096)], most: longest_text }
     }
 
-    /// The text of a symbol.
+    /// Returns the text of a symbol.
     pub fn demangle(&mut self, symbol: &str) -> Result<&str, Refused> {
         self.read(symbol, demangle)
     }
 
-    /// The text of a type.
+    /// Returns the text of a type.
     pub fn demangle_type(&mut self, mangled: &str) -> Result<&str, Refused> {
         self.read(mangled, demangle_type)
     }
@@ -232,7 +238,8 @@ impl Demangler {
             let answer = call(text.as_bytes(), self.ceiling, &mut self.workspace, &mut self.out);
             match answer.map(|(_, written)| written.len()) {
                 Ok(length) => break length,
-                // the output is enlarged and the name read again, up to the longest text that is wanted
+                // the output is enlarged and the name is read again, up to the longest text that is
+                // wanted
                 Err(Refused { refusal: Refusal::Output, .. }) if self.out.len() < self.most => {
                     let larger = (4 * self.out.len()).clamp(1, self.most);
                     self.out.resize(larger, 0);

@@ -1,4 +1,4 @@
-//! The C interface, and one place for each of its three forms where it is called.
+//! The C interface, and one function for each of its three forms, which calls it.
 
 type Read = unsafe extern "C" fn(*const u8, usize, usize, *mut u32, usize, *mut u8, usize, *mut u64);
 type Check = unsafe extern "C" fn(*const u8, usize, usize, *mut u32, usize, *mut u64);
@@ -55,8 +55,8 @@ extern "C" {
     );
 }
 
-// Safety, of all three: the calls ask for true lengths, for pointers that are not null (those of slices never are) and for memory that does
-// not overlap, which the borrows give. They keep no pointer.
+// Safety of all three: the calls require true lengths, pointers that are not null (those of slices
+// never are) and memory that does not overlap, which the borrows ensure. The calls keep no pointer.
 
 pub fn read(f: Read, text: &[u8], n: usize, w: &mut [u32], out: &mut [u8]) -> [u64; 6] {
     let mut answer = [0; 6];

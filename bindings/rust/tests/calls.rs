@@ -1,4 +1,5 @@
-//! The eight calls through the safe functions: document 01's key, every refusal, and what is written.
+//! The eight calls through the safe functions: the key of document 01, every refusal, and what is
+//! written.
 
 use cepruvels::*;
 

@@ -1,4 +1,5 @@
--- A symbol's body is well-formed if the symbol is: it begins behind bytes below 80, and ends before a dot or with the text. Assumes nothing.
+-- The body of a symbol is well-formed if the symbol is: it begins after bytes below 80, and ends
+-- before a dot or with the text. Assumes nothing.
 use mathlib.Core.Path.{_≡_, refl, sym, subst, ap, _∙_}
 use mathlib.Core.Bool.{Bool, true, false, _&&_, not, and-eq-true-iff}
 use mathlib.Core.List.{List, [], _∷_}
@@ -29,7 +30,7 @@ prefixes-ascii : all-ascii prefixes ≡ true
 unfolding all-ascii ascii prefixes bytes
 prefixes-ascii = refl
 
--- behind bytes below 80 a character begins
+-- after bytes below 80 a character begins
 past-ascii : (p t : Text) → ascii p ≡ true → same p (take (length p) t) ≡ true → Characters t → Characters (drop (length p) t)
 unfolding ascii
 past-ascii [] t a e h = h
@@ -57,7 +58,8 @@ past-prefix (p ∷ ps) a t {n} e h = by (λ k. past-prefix ps (low .1) t k h) (s
     by later false k = later (sym (prefix-later p ps t k) ∙ e)
 
 -- THE DOT
--- the first dot, or the end (where `getD` gives 0), lies inside the text, and is no byte of 80 to BF
+-- the first dot, or the end (where `getD` gives 0), is inside the text, and is not a byte of 80 to
+-- BF
 dot-at : (t : Text) → (length (before-dot t) ≤ length t) × (tail (getD t (length (before-dot t)) 0) ≡ false)
 unfolding before-dot
 dot-at [] = (omega arith, refl)

@@ -1,4 +1,4 @@
--- The checks before a run, and what is read of a text. Assumes nothing.
+-- The checks before a run, and the part of a text that is read. Assumes nothing.
 use mathlib.Core.Path.{_≡_, refl, sym, ap, ap₂, subst, _∙_}
 use mathlib.Core.Bool.{Bool, true, false, _&&_, and-false, and-eq-true-iff}
 use mathlib.Core.Option.{Option, some, none}
@@ -69,7 +69,7 @@ module _ (what : Final) (need N w : ℕ) (t : Text) where
   abbrev Fails : Refusal → ℕ → Type 0
   Fails r place = Refused (λ read. admit need N w t (framed what t read)) r place
 
-  -- the tests' outcomes are these
+  -- the outcomes of the tests are these
   tested : {g l s : Bool} {o : Option ℕ} → good-ceiling N ≡ g → leb (need * N) w ≡ l → leb (length t) 65535 ≡ s → ill-formed t ≡ o → (a : Calls.Answer) → admit need N w t a ≡ outcome g l s o a
   unfolding admit outcome
   tested {g} {l} {s} e₁ e₂ e₃ e₄ a =

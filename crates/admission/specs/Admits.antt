@@ -1,4 +1,5 @@
--- What is read of a text, and what the checks before a run say of the definition's. Assumes nothing.
+-- The part of a text that is read, and what the checks before a run say about the definition's
+-- checks. Assumes nothing.
 use mathlib.Core.Path.{_≡_}
 use mathlib.Core.Bool.{true}
 use Prim.Native.Nat.{ℕ, _-_, _*_, _≤_}
@@ -14,12 +15,12 @@ use Rattle.runs.specs.declared.Final.the-variants as Final
 use Rattle.admission.specs.declared.Admitted.{Admitted}
 use Rattle.admission.specs.declared.Admitted.the-variants as Admitted
 
--- what is read of a text: a symbol's parts, or a type's whole text
+-- the part of a text that is read: the parts of a symbol, or the whole text of a type
 abbrev pub framed : Final → Text → (Symbol → Calls.Answer) → Calls.Answer
 framed Final.Symbol t read = symbol t read
 framed Final.Type t read = read (whole-text t)
 
--- whatever is read next is read of text[start..end], which is well-formed
+-- whatever is read next is read from text[start..end], which is well-formed
 pub record Body (before : (Symbol → Calls.Answer) → Calls.Answer) (t : Text) (start end : ℕ) : Type 0 where
   pub is : (read : Symbol → Calls.Answer) → before read ≡ read (Symbols.symbol t start end)
   pub order : start ≤ end
@@ -34,7 +35,7 @@ abbrev pub Frames : ((Symbol → Calls.Answer) → Calls.Answer) → Text → Ad
 Frames before t (Admitted.Body start end) = Body before t start end
 Frames before t (Admitted.Refused r place) = Refused before r place
 
--- the run's bounds
+-- the bounds of the run
 pub record Bounds (need N workspace : ℕ) (t : Text) : Type 0 where
   pub small : N ≤ 65536
   pub long : need * N ≤ workspace

@@ -1,4 +1,5 @@
-// The checks before a run, 1 to 5 of document 01, and what of the text is read then.
+// The checks 1 to 5 of document 01, which are made before a run. They also give the part of the
+// text that is read.
 ghost use mathlib.Core.Path.{_≡_};
 ghost use mathlib.Core.Bool.{true};
 ghost use Prim.Native.Nat.{_≤_};
@@ -10,13 +11,15 @@ use runs::Final;
 use symbols::Symbol;
 use utf8::IllFormed;
 
-// The body is text[start..end], and well-formed; or the text is refused before a run, at a place.
+// Either the body is text[start..end] and is well-formed, or the text is refused before a run, at a
+// place.
 pub enum Admitted {
     Body(usize, usize),
     Refused(Refusal, usize),
 }
 
-// The body of a symbol, or a type's whole text, of a text that is well-formed. 5: there is none.
+// Returns the body of a symbol, or the whole text of a type. The text is well-formed. Refusal 5:
+// there is no body.
 fn body_of(text: &[u8], what: Final) -> Admitted
     requires { ⌜ Text.well-formed (now text) ≡ true ⌝ }
     ensures { λ r. ⌜ Frames (framed what (now (text .entry))) (now (text .entry)) r ⌝ }
@@ -30,7 +33,8 @@ fn body_of(text: &[u8], what: Final) -> Admitted
     }
 }
 
-// 1 to 5, in order, for a call that needs that many numbers of workspace a node.
+// Makes the checks 1 to 5, in order, for a call that needs `need` numbers of workspace for each
+// node.
 pub fn admit(text: &[u8], what: Final, ceiling: usize, need: usize, numbers: usize) -> Admitted
     requires { ⌜ need ≤ 64 ⌝ }
     ensures { λ r. ⌜ Admits what need ceiling numbers (now (text .entry)) r ⌝ }

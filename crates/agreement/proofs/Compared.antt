@@ -73,7 +73,7 @@ module _ (a b : Calls.Values) where
         length = eqb→eq (a .length) (b .length) (q .5) i;
       }
 
-  -- values that are the same have one length
+  -- equal values have equal lengths
   pub one-length : same-values a b ≡ true → a .length ≡ b .length
   one-length e = ap (λ (v : Calls.Values). v .length) (values-equal (subst T (sym e) tt))
 
@@ -122,7 +122,7 @@ module _ (out : ℕ) (text : List ℕ) (c : Calls.Answer) where
           let y = nleb→lt (length text) out (subst (λ (z : Bool). T (not z)) (sym q) tt) in
           h .too-long x y ∙ sym (due-too-long x y)
 
--- what a whole reading must answer, by the values alone
+-- the required answer of a whole reading, by the values alone
 module _ (reading check : Calls.Values) where
   pub values-due-refused : (check .number ≡ 0 → ⊥) → check ≡ values-due reading check
   values-due-refused h = rw (ne-eqb (check .number) 0 h) refl

@@ -12,19 +12,20 @@ use Rattle.definition.specs.Alike.{with-text}
 use Rattle.definition.specs.Reading.{read, read-type, demangle, demangle-type, demangle-stopped, demangle-type-stopped}
 use Rattle.definition.specs.Check.{shape, shape-type, shape-stopped, shape-type-stopped}
 
--- all six values
+-- all six values are equal
 abbrev pub same-values : Calls.Values → Calls.Values → Bool
 same-values a b =
     eqb (a .number) (b .number) && eqb (a .place) (b .place) && eqb (a .steps) (b .steps) && eqb (a .total) (b .total) && eqb (a .wraps) (b .wraps) && eqb (a .length) (b .length)
 
--- all values, and what is written, number by number. Of stopped calls demand 3 says this
+-- All values, and what is written, number by number. For stopped calls, demand 3 says this
 abbrev pub same-answer : Calls.Answer → Calls.Answer → Bool
 same-answer a b = same-values (a .values) (b .values) && same (a .written) (b .written)
 
 -- WHOLE CALLS
--- What demand 3 says that the reading answers where the check answers c, the definition reads
--- `text` and the output slice has `out` bytes: the check's own answer where it refuses; where it
--- accepts, the text with the check's counts, or 12 exactly where the text is longer than the output
+-- The answer that demand 3 requires of the reading where the check answers c, the definition reads
+-- `text` and the output slice has `out` bytes. Where the check refuses, it is the check's own
+-- answer. Where the check accepts, it is the text with the check's counts, or 12 exactly where the
+-- text is longer than the output
 abbrev pub due : (out : ℕ) → List ℕ → Calls.Answer → Calls.Answer
 due out text c = if eqb (c .values .number) 0 then (if leb (length text) out then with-text text c else refusal 12 0) else c
 
@@ -37,10 +38,10 @@ whole-agree out text reading check = same-answer reading (due out text check)
 abbrev pub with-length : ℕ → Calls.Values → Calls.Values
 with-length n v = record { number = v .number; place = v .place; steps = v .steps; total = v .total; wraps = v .wraps; length = n }
 
--- Values do not say how long a text is that exceeds the output: of an accepted reading its own
--- length is taken, and a reading that refuses what the check accepts must be refused by 12, at 0,
--- with zero counts and length 0. With the reading's text this decides what `whole-agree` does
--- (crates/alike/proofs/Judging: `values-decide`)
+-- Values do not say how long a text is that exceeds the output. For an accepted reading its own
+-- length is taken. A reading that refuses what the check accepts must refuse with 12, at 0, with
+-- zero counts and length 0. Together with the text of the reading this decides what `whole-agree`
+-- does (crates/alike/proofs/Judging: `values-decide`)
 abbrev pub values-due : (reading check : Calls.Values) → Calls.Values
 values-due reading check =
     if eqb (check .number) 0 then (if eqb (reading .number) 0 then with-length (reading .length) check else refusal 12 0 .values) else check
@@ -49,7 +50,8 @@ abbrev pub values-agree : (reading check : Calls.Values) → Bool
 values-agree reading check = same-values reading (values-due reading check)
 
 -- ALL EIGHT CALLS on one text, with one ceiling and one k: how many numbers of workspace each has,
--- how long the output slice of the whole reading is, and how long those of the stopped calls are
+-- the length of the output slice of the whole reading, and the lengths of those of the stopped
+-- calls
 abbrev pub judged : Text → (N k reading-workspace check-workspace out reading-stack check-stack : ℕ) → Bool
 judged t N k w w′ out s s′ =
     whole-agree out (read t N w .written) (demangle t N w out) (shape t N w′) && whole-agree out (read-type t N w .written) (demangle-type t N w out) (shape-type t N w′) && same-answer (demangle-stopped t N k w s) (shape-stopped t N k w′ s′) && same-answer (demangle-type-stopped t N k w s) (shape-type-stopped t N k w′ s′)

@@ -1,4 +1,4 @@
-// Whether two answers agree: their values, and what stopped calls wrote.
+// Whether two answers agree: their values, and the numbers that stopped calls wrote.
 ghost use mathlib.Core.Path.{_≡_};
 ghost use mathlib.Core.Bool.{_&&_};
 ghost use Prim.Native.Nat.{_≤_};
@@ -13,7 +13,7 @@ use values::Values;
 use values::number;
 use values::values_of;
 
-// All six values.
+// Whether all six values are equal.
 fn same_values(a: Values, b: Values) -> bool
     ensures { λ r. ⌜ r ≡ same-values (meant a) (meant b) ⌝ }
 {
@@ -25,8 +25,9 @@ fn same_values(a: Values, b: Values) -> bool
         & (a.length == b.length)
 }
 
-// What a whole reading must answer beside this check. Where both accept, the length is the
-// reading's own; a reading that refuses what the check accepts must be refused by 12, at 0.
+// Returns the values that a whole reading must give if the check gives these. Where both accept,
+// the length is the reading's own. A reading that refuses what the check accepts must refuse with
+// 12, at 0.
 fn values_due(reading: Values, check: Values) -> Values
     ensures { λ r. ⌜ meant r ≡ values-due (meant reading) (meant check) ⌝ }
 {
@@ -53,7 +54,7 @@ fn values_due(reading: Values, check: Values) -> Values
     }
 }
 
-// The first n numbers of both.
+// Whether the first n numbers of both are equal.
 fn same_numbers(a: &[u32], b: &[u32], n: usize) -> bool
     requires { ⌜ (n ≤ length (now a)) × (n ≤ length (now b)) ⌝ }
     ensures { λ r. ⌜ r ≡ same (take n (now (a .entry))) (take n (now (b .entry))) ⌝ }
@@ -68,7 +69,7 @@ fn same_numbers(a: &[u32], b: &[u32], n: usize) -> bool
     true
 }
 
-// Whole calls, by their values alone: the text that was written is not compared here.
+// Compares whole calls by their values only. The text that was written is not compared here.
 pub fn whole_agrees(reading: Answer, check: Answer) -> bool
     ensures { λ r. ⌜ r ≡ values-agree (Enums.values reading) (Enums.values check) ⌝ }
 {
@@ -78,7 +79,7 @@ pub fn whole_agrees(reading: Answer, check: Answer) -> bool
     same_values(a, due)
 }
 
-// Stopped calls: all values, and the numbers that they wrote.
+// Compares stopped calls: all values, and the numbers that they wrote.
 pub fn stopped_agrees(
     reading: Answer,
     check: Answer,

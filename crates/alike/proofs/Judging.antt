@@ -1,4 +1,4 @@
--- That two calls on one text agree, what they leave, and that all eight do. Assumes nothing.
+-- Two calls on one text agree; what they leave; all eight agree. Assumes nothing.
 use mathlib.Core.Path.{_≡_, refl, sym, ap, ap₂, subst, _∙_}
 use mathlib.Core.Bool.{Bool, true, false, not, _&&_}
 use mathlib.Core.List.{List, [], _∷_}
@@ -37,7 +37,7 @@ module _ (out : ℕ) (a : Calls.Answer) where
   unfolding within
   within-past e = rw e refl
 
-  -- a refused call writes nothing, 12 included
+  -- a refused call writes nothing, also with 12
   within-silent : Plain a → T (not (eqb (within out a .values .number) 0)) → within out a .written ≡ []
   unfolding within refusal
   within-silent h = go (leb (length (a .written)) out)
@@ -51,9 +51,9 @@ implied : (a b : Bool) → (a ≡ true → b ≡ true) → a ≡ (a && b)
 implied true b h = sym (h refl)
 implied false b h = refl
 
--- The values decide what the whole answers do: the length of the text that an accepted reading
--- writes is the one that it says, and 12 is its answer exactly where the text is longer than the
--- output
+-- The values decide the same as the whole answers: the length of the text that an accepted reading
+-- writes is the length in its answer, and 12 is its answer exactly where the text is longer than
+-- the output
 module _ (out : ℕ) (a c : Calls.Answer) (h : Plain a) (k : Plain c) where
   abbrev Decides : (reading due : Calls.Answer) → Type 0
   Decides r d = values-agree (r .values) (c .values) ≡ same-answer r d
@@ -101,7 +101,7 @@ module _ (out : ℕ) (a c : Calls.Answer) (h : Plain a) (k : Plain c) where
           let y = nleb→lt (length (a .written)) out (subst (λ (z : Bool). T (not z)) (sym q) tt) in
           at (refusal 12 0) (refusal 12 0) (within-past out a q) (due-too-long out (a .written) c x y) (too-long e)
 
--- workspaces, by the definition's numbers
+-- workspaces, by the numbers of the definition
 scratch : {need N : ℕ} {w w′ : List ℕ} {v u : Calls.Values} → v ≡ u → Scratch need N (v .number) w w′ → Scratch need N (u .number) w w′
 scratch {need} {N} {w} {w′} e h = subst (λ (x : Calls.Values). Scratch need N (x .number) w w′) e h
 
@@ -130,12 +130,12 @@ module _ (t : Text) (N : ℕ) (x y : Answer) (r : Bool) {w w′ v v′ out out�
   type-whole-is = whole-calls N (Reading.read-type t N (length w)) (Check.shape-type t N (length v)) x y r (type-read-plain t N (length w)) (type-shape-plain t N (length v))
 
 -- STOPPED CALLS
--- the numbers that were written are still within the slice
+-- the numbers that were written are within the slice
 pub still-fits : {text out out′ : List ℕ} (r : Answer) → Wrote text out out′ r → values r .length ≤ length out′
 still-fits {text} {out} {out′} r h = let m = h .long in let n = ap length (h .front) in omega (arith, m, n, length-take (values r .length) out′)
 
--- what the code compares: the values, and as many numbers of both stacks as the reading's length
--- says
+-- what the code compares: the values, and as many numbers of both stacks as the length of the
+-- reading says
 abbrev Compared : (x y : Answer) (s z : List ℕ) → Bool → Type 0
 Compared x y s z r = r ≡ (same-values (values x) (values y) && same (take (values x .length) s) (take (values x .length) z))
 
@@ -197,7 +197,7 @@ module _ (t : Text) (N k : ℕ) (x y : Answer) (r : Bool) {w w′ v v′ s s′ 
   type-stopped-is p q e = stopped-calls N _ _ x y r (demangle-type-wrote t N k (length w) (p .0)) (shape-type-wrote t N k (length v) (q .0)) p q e
 
 -- ALL EIGHT
--- Judging alike: with workspaces that are enough, and stacks of one length, the test is passed
+-- Judging alike: with large enough workspaces, and stacks of equal length, the test passes
 pub judged-true : (t : Text) (N k w w′ out s s′ : ℕ) → T (enough reading-needs N w) → T (enough check-needs N w′) → s ≡ s′ → judged t N k w w′ out s s′ ≡ true
 judged-true t N k w w′ out s s′ h h′ e =
     let a = judging-alike t N k w w′ out h h′ in
@@ -205,7 +205,7 @@ judged-true t N k w w′ out s s′ h h′ e =
     subst (λ (x : ℕ). judged t N k w w′ out s x ≡ true) e
     (rw (alike-agree out _ _ _ (a .symbol), alike-agree out _ _ _ (a .type), equal-answers _ _ (b .symbol-stopped), equal-answers _ _ (b .type-stopped)) refl)
 
--- a workspace that goes from call to call
+-- a workspace that is passed from call to call
 lent-first : {need N : ℕ} {w : List ℕ} → Lent need N [] w w
 lent-first = record { beyond = beyond-itself _ _; untouched = λ h. refl }
 
@@ -216,7 +216,7 @@ lent-then {more = more} a h k = record {
 }
 
 module _ (t : Text) (N k : ℕ) {w w₁ w₂ w₃ w₄ v v₁ v₂ v₃ v₄ out out₁ out₂ s s₁ s₂ z z₁ z₂ : List ℕ} {r₁ r₂ r₃ r₄ : Bool} where
-  -- the four pairs of calls, each on what the one before it left
+  -- the four pairs of calls, each on what the previous one left
   pub judges : Whole N (Reading.read t N (length w) .written) (Reading.demangle t N (length w) (length out)) (Check.shape t N (length v)) w w₁ v v₁ out out₁ r₁ →
       Whole N (Reading.read-type t N (length w₁) .written) (Reading.demangle-type t N (length w₁) (length out₁)) (Check.shape-type t N (length v₁)) w₁ w₂ v₁ v₂ out₁ out₂ r₂ →
       Stopped N (Reading.demangle-stopped t N k (length w₂) (length s)) (Check.shape-stopped t N k (length v₂) (length z)) w₂ w₃ v₂ v₃ s s₁ z z₁ r₃ →

@@ -1,4 +1,4 @@
--- What the functions of this crate answer, and what their slices hold at exit. Assumes nothing.
+-- What the functions of this crate return, and what their slices hold at exit. Assumes nothing.
 use mathlib.Core.Path.{_≡_}
 use mathlib.Core.Bool.{Bool, true, _&&_}
 use mathlib.Core.List.{List, [], _∷_, _++_}
@@ -15,14 +15,15 @@ use Rattle.budget.specs.Beyond.{Beyond}
 use Rattle.endings.specs.Calls.{early, Scratch}
 use Rattle.agreement.specs.Agreement.{whole-agree, same-answer, judged}
 
--- what the call writes at the front of the slice, and the rest of the slice as it was
+-- what the call writes to the front of the slice, followed by the unchanged rest of the slice
 abbrev pub put : Calls.Answer → List ℕ → List ℕ
 put a out = a .written ++ drop (length (a .written)) out
 
--- TWO CALLS, of which the definition answers `reading` and `check`. At entry w is the reading's
--- workspace, v the check's, o the output slice, s and z the stacks; at exit w′, v′, o′, s′ and z′
+-- TWO CALLS, to which the definition answers `reading` and `check`. At entry w is the workspace of
+-- the reading, v that of the check, o the output slice, s and z the stacks; at exit w′, v′, o′, s′
+-- and z′
 
--- a whole reading and a whole check, of a text that the definition reads as `text`
+-- a whole reading and a whole check of a text that the definition reads as `text`
 pub record Whole (N : ℕ) (text : List ℕ) (reading check : Calls.Answer) (w w′ v v′ o o′ : List ℕ) (r : Bool) : Type 0 where
   pub answer : r ≡ whole-agree (length o) text reading check
   pub out : o′ ≡ put reading o
@@ -38,18 +39,19 @@ pub record Stopped (N : ℕ) (reading check : Calls.Answer) (w w′ v v′ s s�
   pub check-workspace : Scratch check-needs N (check .values .number) v v′
 
 -- ALL EIGHT
--- refused by 1 to 5, each of them
+-- each of them is refused by 1 to 5
 abbrev pub all-early : List Calls.Answer → Bool
 all-early [] = true
 all-early (a ∷ more) = early (a .values .number) && all-early more
 
--- the workspace of calls made one after another, which answer so: scratch up to need × N numbers;
--- past them it is as it was, and wholly so where 1 to 5 refuse each call
+-- The workspace of calls that are made one after another and have these answers. It is scratch up
+-- to need × N numbers. Past them it is unchanged, and all of it is unchanged where 1 to 5 refuse
+-- each call
 pub record Lent (need N : ℕ) (answers : List Calls.Answer) (w w′ : List ℕ) : Type 0 where
   pub beyond : Beyond need N w w′
   pub untouched : T (all-early answers) → w′ ≡ w
 
--- the slices that `judged_alike` is lent
+-- the slices that are lent to `judged_alike`
 pub record Slices : Type 0 where
   pub reading-workspace : List ℕ
   pub check-workspace : List ℕ
@@ -87,8 +89,8 @@ module _ (t : Text) (N k : ℕ) (s : Slices) where
   abbrev pub stopped-type-check : Calls.Answer
   stopped-type-check = shape-type-stopped t N k (length (s .check-workspace)) (length (s .check-stack))
 
--- what `judged_alike` answers, and what its slices hold at exit. Each slice has what the symbol's
--- call writes, and over it what the type's call writes
+-- The result of `judged_alike`, and what its slices hold at exit. Each slice has what the call for
+-- the symbol writes, overwritten by what the call for the type writes
 pub record Judges (t : Text) (N k : ℕ) (s s′ : Slices) (r : Bool) : Type 0 where
   pub answer : r ≡ judged t N k (length (s .reading-workspace)) (length (s .check-workspace)) (length (s .out)) (length (s .reading-stack)) (length (s .check-stack))
   pub alike : T (enough reading-needs N (length (s .reading-workspace))) → T (enough check-needs N (length (s .check-workspace))) → length (s .reading-stack) ≡ length (s .check-stack) → r ≡ true

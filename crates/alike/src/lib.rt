@@ -1,5 +1,5 @@
-// Judging alike in code: lends its slices to reading and check, of a symbol and of a type, whole
-// and stopped, and says whether they agree.
+// Judging alike in code. Lends its slices to the reading and to the check, for a symbol and for a
+// type, whole and stopped, and returns whether they agree.
 ghost use lib.ListN.{length};
 ghost use Rattle.definition.specs.Check as Check;
 ghost use Rattle.definition.specs.Reading as Reading;
@@ -81,9 +81,9 @@ fn type_stopped(
     stopped_agrees(reading, check, reading_stack, check_stack)
 }
 
-// Whether reading and check judge a text alike, as demand 3 says. With workspaces that are enough,
-// and stacks of one length, the answer is true. All eight calls are made, whatever the first of
-// them answer.
+// Returns whether reading and check judge a text alike, as demand 3 says. With large enough
+// workspaces and stacks of equal length, the answer is true. All eight calls are made, whatever the
+// first of them return.
 pub fn judged_alike(
     text: &[u8],
     ceiling: usize,

@@ -1,4 +1,4 @@
--- What the reading's end comes to. Assumes nothing.
+-- The result at the end of the reading. Assumes nothing.
 use mathlib.Core.Path.{_≡_, refl, sym, ap, subst, _∙_}
 use mathlib.Core.Bool.{Bool, true, false, not}
 use mathlib.Core.List.{List, _++_, map, reverse}
@@ -56,7 +56,8 @@ module _ (b : B.Budget) (s out out′ : List ℕ) (r : Answer) where
 
 -- READING
 module _ (what : Final) (body suffix : Text) (end : ℕ) (words : Words) (w : List ℕ) (N : ℕ) (st : State) where
-  -- the machine's names, and the printer's: words that are noted and not in the table are looked for by none
+  -- the names of the machine, and those of the printer: words that are noted and not in the table
+  -- are not used
   abbrev with-all : List Name → Names
   with-all all = names-of body (noted (table body words) all)
 

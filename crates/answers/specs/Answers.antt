@@ -20,14 +20,14 @@ use Rattle.records.specs.declared.State.{State}
 use Rattle.runs.specs.Ends.{kinds-of}
 use Rattle.runs.specs.declared.Final.{Final}
 
--- some machine lies in the workspace, with the body's names
+-- the workspace holds some machine, with the names of the body
 pub record Held (body : Text) (words : Words) (w : List ℕ) (N : ℕ) (st : State) : Type 0 where
   pub known : Known body words
   pub machine : Demangler
   pub all : List Name
   pub holds : Holds (names-of body (noted (table body words) all)) w N st nothing-spare machine
 
--- the end of a whole reading, whatever machine lies there
+-- the end of a whole reading, whatever machine the workspace holds
 pub record Finishes (what : Final) (body suffix : Text) (end : ℕ) (words : Words) (w : List ℕ) (N : ℕ) (st : State) (out out′ : List ℕ) (r : Answer) : Type 0 where
   pub each : (s : Symbol) (m : Demangler) (all : List Name) → s .start + length (s .body) ≡ end → s .suffix ≡ suffix → Holds (names-of body (noted (table body words) all)) w N st nothing-spare m →
       Answers (within (length out) (finished kind (kinds-of what) (λ n. print n ++ suffix-text (s .suffix)) s m)) out out′ r

@@ -1,4 +1,5 @@
-// What the reading's run comes to: the answer of a call, once the checks before the run have passed.
+// The result of the reading's run: the answer of a call, once the checks before the run have
+// passed.
 ghost use mathlib.Core.Path.{_≡_};
 ghost use mathlib.Core.Bool.{true};
 ghost use Prim.Native.Nat.{_-_, _*_, _≤_};
@@ -22,7 +23,8 @@ use records::State;
 use runs::Final;
 use words::Words;
 
-// The text of the one tree that is left, with the suffix. 11: not exactly one is, or one of a kind that is not taken.
+// Writes the text of the only tree that is left, with the suffix. Refusal 11: there is not exactly
+// one tree, or its kind is not accepted.
 fn finish(
     ws: &[u32],
     ceiling: usize,
@@ -50,7 +52,7 @@ fn finish(
     }
 }
 
-// The whole run over text[start..end], and the text that it comes to.
+// Runs over text[start..end] to the end and writes the resulting text.
 pub fn read_body(
     text: &[u8],
     start: usize,
@@ -76,7 +78,7 @@ pub fn read_body(
     }
 }
 
-// The run over text[start..end], stopped after k operators, and the entries of its trees.
+// Runs over text[start..end], stops after k operators, and writes the entries of the trees.
 pub fn read_stopped_body(
     text: &[u8],
     start: usize,

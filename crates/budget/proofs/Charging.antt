@@ -1,4 +1,4 @@
--- What a charge that is taken says.
+-- What a successful charge says.
 use mathlib.Core.Path.{_≡_, refl, sym}
 use mathlib.Core.Bool.{Bool, true, false}
 use Prim.Native.Nat.{ℕ, _+_, _*_, _≤_}
@@ -28,6 +28,6 @@ module _ (N n : ℕ) (b c : B.Budget) (q : B.charge N n b ≡ ok tt c) where
       go true q₁ = cc
       go false q₁ = absurd (let z : _≡_ {A = ℕ} 0 1 = cc in omega arith)
 
--- the copies of a node number no more than their charge
+-- the number of copies of a node is at most their charge
 pub copies-le : (size copies : ℕ) → 1 ≤ size → copies ≤ size * copies
 copies-le size copies h = le-trans (le-of-eq (sym (one-mul copies))) (mul-le-mul-right copies h)

@@ -16,7 +16,7 @@ pub past : (N n : ℕ) (b : Budget) → N < b .total + n → Definition.charge N
 unfolding Definition.charge
 past N n b h = rw (lt-leb (b .total + n) N h)
 
--- copies of a node are at least as many nodes
+-- copies of a node are at least that many nodes
 pub copies-le : (size copies : ℕ) → 1 ≤ size → copies ≤ size * copies
 copies-le size copies h = le-trans (le-of-eq (sym (one-mul copies))) (mul-le-mul-right copies h)
 

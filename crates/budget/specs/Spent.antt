@@ -1,4 +1,4 @@
--- What a budget and an answer about one say of the definition's.
+-- What a budget and an answer about one say about the definition's.
 use mathlib.Core.Path.{_≡_}
 use Rattle.definition.specs.Base.{Out, ok, refused, Done}
 use Rattle.definition.specs.Budget as Definition

@@ -5,14 +5,14 @@ ghost use Rattle.definition.specs.Budget as Definition;
 ghost use Rattle.budget.specs.Spent.{Spending, budget-of};
 use definition::Refusal;
 
-// Turns of `run`, the sum of all charges, and wraps.
+// The number of turns of `run`, the sum of all charges, and the number of wraps.
 pub struct Budget {
     pub steps: usize,
     pub total: usize,
     pub wraps: usize,
 }
 
-// The budget after something was counted.
+// The budget after a count was increased.
 pub enum Spent {
     Left(Budget),
     Refused(Refusal),
@@ -25,10 +25,11 @@ impl Budget {
 
     pub const MOST_WRAPS: usize = 256;
 
-    // How many turns a whole run may make: one more than there are steps, which is refused.
+    // The number of turns that a whole run may make: one more than the limit of steps. The last
+    // turn is refused.
     pub const ALL_TURNS: usize = Budget::MOST_STEPS + 1;
 
-    // Zero counts.
+    // Returns a budget whose counts are zero.
     pub fn new() -> Self
         ensures { λ r. ⌜ budget-of r ≡ Definition.fresh ⌝ }
     {
@@ -39,7 +40,7 @@ impl Budget {
         }
     }
 
-    // One more turn of `run`.
+    // Counts one more turn of `run`.
     pub fn step(self) -> Spent
         ensures { λ r. ⌜ Spending (Definition.step (budget-of self)) r ⌝ }
     {
@@ -54,7 +55,7 @@ impl Budget {
         Spent::Refused(Refusal::Steps)
     }
 
-    // n nodes made or copied; their sum may not pass the ceiling.
+    // Charges n nodes that are made or copied. The sum may not exceed the ceiling.
     pub fn charge(self, ceiling: usize, n: usize) -> Spent
         ensures { λ r. ⌜ Spending (Definition.charge ceiling n (budget-of self)) r ⌝ }
     {
@@ -71,7 +72,7 @@ impl Budget {
         Spent::Refused(Refusal::Charge)
     }
 
-    // So many copies of a node of a size.
+    // Charges that many copies of a node of a size.
     pub fn charge_copies(self, ceiling: usize, size: usize, copies: usize) -> Spent
         requires { ⌜ (ceiling ≤ 65536) × (1 ≤ size) × (size < 2 ^ 32) ⌝ }
         ensures { λ r. ⌜ Spending (Definition.charge ceiling (size * copies) (budget-of self)) r ⌝ }
@@ -82,7 +83,7 @@ impl Budget {
         Spent::Refused(Refusal::Charge)
     }
 
-    // A type wrapped in another.
+    // Counts a type that is wrapped in another.
     pub fn wrap(self) -> Spent
         ensures { λ r. ⌜ Spending (Definition.wrap (budget-of self)) r ⌝ }
     {

@@ -28,7 +28,7 @@ use Rattle.buffers.specs.declared.State.{State}
 use Rattle.buffers.specs.declared.Got.{Got}
 use Rattle.buffers.specs.declared.Got.the-variants as Got
 
--- what is read there is not overwritten yet
+-- what is read there is not yet overwritten
 pub not-yet : (l : List ℕ) (from i : ℕ) → from + i < length l → getD (paste l 0 (drop from l) i) (from + i) 0 ≡ getD (drop from l) i 0
 not-yet l from i h =
     let k : length (take i (drop from l)) ≡ i = length-take-le i (drop from l) (omega (arith, length-drop from l)) in
@@ -36,7 +36,7 @@ not-yet l from i h =
     let q : 0 + i + from ≡ from + i = omega arith in
     ap (λ (n : ℕ). getD (paste l 0 (drop from l) i) n 0) p ∙ getD-append-add (take i (drop from l)) (drop (0 + i) l) from 0 ∙ getD-drop (0 + i) l from 0 ∙ ap (λ (n : ℕ). getD l n 0) q ∙ sym (getD-drop from l i 0)
 
--- one byte more
+-- one more byte
 pub one-more : (l : List ℕ) (from i : ℕ) {input : List ℕ} → from + i < length l → input ≡ paste l 0 (drop from l) i → set input i (getD input (from + i) 0) ≡ paste l 0 (drop from l) (i + 1)
 one-more l from i {input} h e =
     let z : i ≡ 0 + i = omega arith in
@@ -44,7 +44,7 @@ one-more l from i {input} h e =
     let j : i < length (drop from l) = omega (arith, length-drop from l) in
     ap (λ (x : List ℕ). set x i (getD x (from + i) 0)) e ∙ ap (set (paste l 0 (drop from l) i) i) (not-yet l from i h) ∙ ap (λ (n : ℕ). set (paste l 0 (drop from l) i) n (getD (drop from l) i 0)) z ∙ paste-suc l 0 (drop from l) i 0 k j ∙ ap (paste l 0 (drop from l)) (sym (add-one i))
 
--- a read brings no more bytes than there is room for
+-- a read stores no more bytes than there is room for
 few : (z : ℤ) (m n : ℕ) → Moved m z → heard-of z ≡ Got.Bytes n → n ≤ m
 few (pos zero) m n h e = let z : _≡_ {A = ℕ} 0 1 = cc in absurd (omega arith)
 few (pos (suc k)) m n h e = let z : suc k ≡ n = cc in omega arith

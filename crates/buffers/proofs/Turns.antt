@@ -14,7 +14,7 @@ use Rattle.line_forms.proofs.Inputs.{owed-inside, owed-after, owed-ended}
 use Rattle.buffers.specs.Buffers.{Turned}
 use Rattle.buffers.specs.declared.Next.the-variants as Next
 
--- INSIDE A LINE that is answered already
+-- INSIDE A LINE that is already answered
 module _ (line : Text → List ℕ) (o : List ℕ) {t : Text} {end : ℕ} (e : Ends t 0 end) where
   clear-front : Clear (take end t)
   clear-front i h q =

@@ -1,4 +1,4 @@
--- The input buffer: what is still to be answered, and what reads, writes and turns make of it.
+-- The input buffer: what is still to be answered, and the effect of reads, writes and turns on it.
 -- Assumes nothing.
 use mathlib.Core.Path.{_≡_}
 use mathlib.Core.Bool.{Bool, true, false}
@@ -23,7 +23,7 @@ use Rattle.buffers.specs.declared.Rest.the-variants as Rest
 abbrev pub LongAlike : (Text → List ℕ) → Type 0
 LongAlike line = (s t : Text) → 4096 < length s → 4096 < length t → line s ≡ line t
 
--- What is owed of a text with no newline in it. Last: its answer and nothing more. Long: its
+-- What is owed for a text with no newline in it. Last: its answer and nothing more. Long: its
 -- answer, once, whatever follows. More: this depends on what follows. Nothing: nothing.
 abbrev pub Resting : Text → (ended : Bool) → Rest → Type 0
 Resting t ended Rest.Last = (ended ≡ true) × ((line : Text → List ℕ) → owed line false t ≡ line t)
@@ -36,9 +36,9 @@ Resting t ended Rest.Nothing = (ended ≡ true) × ((line : Text → List ℕ) �
 abbrev pub Follows : (ended : Bool) → Text → Type 0
 Follows ended u = ended ≡ true → u ≡ []
 
--- What is done after a turn over t. Input is read where it has not ended, and at most 4,096 bytes
--- are kept then. The turn is followed by another one where it read something. The program is done
--- where the input has ended and nothing is owed.
+-- What is done after a turn over t. Input is read only if it has not ended, and then at most 4,096
+-- bytes are kept. Another turn follows only if this turn read something. The program is done only
+-- if the input has ended and nothing is owed.
 abbrev pub Goes : (Text → List ℕ) → Text → (ended : Bool) → Turn → Next → Type 0
 Goes line t ended r Next.Read = (ended ≡ false) × (length t ≤ r .read + 4096)
 Goes line t ended r Next.Answer = 0 < r .read
@@ -46,15 +46,15 @@ Goes line t ended r Next.Done = (ended ≡ true) × (owed line (r .inside) (drop
 Goes line t ended r Next.ReadFailed = ⊥
 Goes line t ended r Next.WriteFailed = ⊥
 
--- What is owed of t, whatever follows it, is what was written to the front of the output slice and
--- what is owed of the rest of t.
+-- What is owed for t, whatever follows it, is what was written to the front of the output slice and
+-- what is owed for the rest of t.
 pub record Turned (line : Text → List ℕ) (t : Text) (inside ended : Bool) (o′ : List ℕ) (r : Turn) : Type 0 where
   pub within : r .read ≤ length t
   pub fits : r .written ≤ length o′
   pub owes : (u : Text) → Follows ended u → owed line inside (t ++ u) ≡ take (r .written) o′ ++ owed line (r .inside) (drop (r .read) t ++ u)
   pub goes : Goes line t ended r (r .next)
 
--- a turn inside a line that is answered already, whatever the output slice holds
+-- a turn inside a line that is already answered, whatever the output slice holds
 abbrev pub Passing : Text → (ended : Bool) → Turn → Type 0
 Passing t ended r = (line : Text → List ℕ) (o : List ℕ) → Turned line t true ended o r
 
@@ -63,26 +63,26 @@ Passing t ended r = (line : Text → List ℕ) (o : List ℕ) → Turned line t 
 abbrev pub kept : List ℕ → State → Text
 kept l s = part l (s .from) (s .end)
 
--- what is owed of them where u follows
+-- what is owed for them where u follows
 abbrev pub due : (Text → List ℕ) → List ℕ → State → (u : Text) → List ℕ
 due line l s u = owed line (s .inside) (kept l s ++ u)
 
--- They are a part of the buffer. Where input is to be read, it has not ended, and at most 4,096
--- bytes are kept, so that there is room for more.
+-- They are a part of the buffer. If input is to be read, it has not ended, and at most 4,096 bytes
+-- are kept, so that there is room for more.
 pub record Holds (l : List ℕ) (s : State) : Type 0 where
   pub order : s .from ≤ s .end
   pub within : s .end ≤ length l
   pub asks : s .next ≡ Next.Read → (s .ended ≡ false) × (s .end ≤ s .from + 4096)
 
 -- READS AND WRITES
--- a read answers -1, or how many bytes it stored, 0 at the end of the input
+-- a read returns -1, or the number of bytes that it stored, 0 at the end of the input
 abbrev pub heard-of : ℤ → Got
 heard-of (pos zero) = Got.Ended
 heard-of (pos (suc n)) = Got.Bytes (suc n)
 heard-of (negsuc n) = Got.Failed
 
--- What is kept is moved to the front, and what was read is stored after it. After a read that
--- failed the program stops and answers nothing more: what is kept may be a part of a line.
+-- What is kept is moved to the front, and what was read is stored after it. After a failed read the
+-- program stops and answers nothing more: what is kept may be a part of a line.
 abbrev pub after-read : State → Got → State
 after-read b (Got.Bytes n) = record { from = 0; end = b .end - b .from + n; inside = b .inside; ended = false; written = 0; next = Next.Answer }
 after-read b Got.Ended = record { from = 0; end = b .end - b .from; inside = b .inside; ended = true; written = 0; next = Next.Answer }
@@ -94,7 +94,7 @@ Fits b (Got.Bytes n) = b .end - b .from + n < 2 ^ 63
 Fits b Got.Ended = Unit {0}
 Fits b Got.Failed = Unit {0}
 
--- after a write that failed the program stops
+-- after a failed write the program stops
 abbrev pub after-write : (wrote : Bool) → Next → Next
 after-write true next = next
 after-write false next = Next.WriteFailed
@@ -125,7 +125,7 @@ pub record Filled (l l′ : List ℕ) (b r : State) : Type 0 where
   pub long : length l′ ≡ length l
   pub filling : Filling (b .next) l l′ b r
 
--- A STEP: a read where the state asks for it, a turn, a write
+-- A STEP: a read if the state requires it, a turn, a write
 -- where the bytes that are not answered begin after the read
 abbrev pub begins : Next → State → ℕ
 begins Next.Read b = 0
@@ -142,9 +142,9 @@ fetched Next.Done l′ b end = []
 fetched Next.ReadFailed l′ b end = []
 fetched Next.WriteFailed l′ b end = []
 
--- What is owed of the bytes that were kept before the step, followed by those that it read and by
--- u, is what the step wrote and what is owed of the bytes that are kept after it, followed by u.
--- The step moved on where another turn follows, and nothing is owed where the program is done.
+-- What is owed for the bytes that were kept before the step, followed by those that it read and by
+-- u, is what the step wrote and what is owed for the bytes that are kept after it, followed by u.
+-- The step made progress if another turn follows, and nothing is owed if the program is done.
 pub record Stepped (line : Text → List ℕ) (l l′ o′ : List ℕ) (b r : State) : Type 0 where
   pub long : length l′ ≡ length l
   pub holds : Holds l′ r

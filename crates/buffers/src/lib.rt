@@ -1,8 +1,8 @@
-// The input buffer of the programs `names` and `shapes`: what it holds, what is done after a read
-// and after a write, and what is owed of a line that has no newline in the buffer. The contracts
-// speak of the answers that are still to be written (`owed` in line_forms/specs/Lines.antt). That a
-// read stores the input's next bytes in the slice, and that a write writes the slice, is assumed of
-// the system.
+// The input buffer of the programs `names` and `shapes`: its contents, what is done after a read
+// and after a write, and what is owed for a line that has no newline in the buffer. The contracts
+// speak of the answers that are still to be written (`owed` in line_forms/specs/Lines.antt). It is
+// assumed of the system that a read stores the input's next bytes in the slice, and that a write
+// writes the slice.
 ghost use mathlib.Core.Path.{_≡_};
 ghost use Prim.Native.Nat.{_≤_, _<_, _^_};
 ghost use lib.ListN.{length};
@@ -16,8 +16,8 @@ const STDIN: i32 = 0;
 
 const STDERR: i32 = 2;
 
-// What is done next: input is read; what the buffer holds is answered; nothing, since all is
-// answered, or since a read or a write failed.
+// What is done next: input is read; the contents of the buffer are answered; or nothing, because
+// all is answered, or because a read or a write failed.
 pub enum Next {
     Read,
     Answer,
@@ -26,8 +26,8 @@ pub enum Next {
     WriteFailed,
 }
 
-// How much of a text was read and how many bytes its answers have; whether the text that is left
-// continues a line that is answered already; and what is done next.
+// How much of a text was read and how many bytes its answers have; whether the rest of the text
+// continues a line that is already answered; and what is done next.
 pub struct Turn {
     pub read: usize,
     pub written: usize,
@@ -35,8 +35,8 @@ pub struct Turn {
     pub next: Next,
 }
 
-// A program between two steps: the bytes of the buffer from `from` to `end` are not answered yet.
-// `inside`: they continue a line that is answered already. `ended`: nothing follows them.
+// A program between two steps. The bytes of the buffer from `from` to `end` are not answered yet.
+// `inside`: they continue a line that is already answered. `ended`: nothing follows them.
 // `written`: how many bytes of the output slice were written last.
 pub struct State {
     pub from: usize,
@@ -47,7 +47,7 @@ pub struct State {
     pub next: Next,
 }
 
-// What a read answered.
+// The result of a read.
 pub enum Got {
     Bytes(usize),
     Ended,
@@ -55,7 +55,7 @@ pub enum Got {
 }
 
 // A line that has no newline in the buffer: it is the last one; it is longer than any line that is
-// read; more of it has to be read first; there is none, since the input has ended.
+// read; more of it has to be read first; or there is none, because the input has ended.
 pub enum Rest {
     Last,
     Long,
@@ -63,7 +63,7 @@ pub enum Rest {
     Nothing,
 }
 
-// Which of them the text is.
+// Returns which of these the text is.
 pub fn rest_of(text: &[u8], ended: bool) -> Rest
     requires { ⌜ Clear (now text) ⌝ }
     ensures { λ r. ⌜ Resting (now (text .entry)) ended r ⌝ }
@@ -80,7 +80,7 @@ pub fn rest_of(text: &[u8], ended: bool) -> Rest
     Rest::More
 }
 
-// Passes over the rest of a line that is answered already.
+// Skips the rest of a line that is already answered.
 pub fn passed(text: &[u8], ended: bool) -> Turn
     ensures { λ r. ⌜ Passing (now (text .entry)) ended r ⌝ }
 {
@@ -109,7 +109,7 @@ pub fn passed(text: &[u8], ended: bool) -> Turn
     }
 }
 
-// Moves the bytes from one place to another to the front; those after them stay.
+// Moves the bytes from `from` to `to` to the front. The bytes after them stay.
 fn keep(input: &mut [u8], from: usize, to: usize)
     requires { ⌜ (from ≤ to) × (to ≤ length (now input)) ⌝ }
     ensures { λ _. ⌜ now (input .exit) ≡ copied (now (input .entry)) 0 (now (input .entry)) from to ⌝ }
@@ -122,7 +122,7 @@ fn keep(input: &mut [u8], from: usize, to: usize)
     }
 }
 
-// A read answers a negative number where it fails, and 0 at the end of the input.
+// A read returns a negative number where it fails, and 0 at the end of the input.
 fn heard(got: isize) -> Got
     ensures { λ r. ⌜ r ≡ heard-of got ⌝ }
 {
@@ -135,8 +135,8 @@ fn heard(got: isize) -> Got
     Got::Ended
 }
 
-// What is done after a read: what it brought is answered, at the end of the input what is kept;
-// where it failed the program stops.
+// Returns the state after a read: the bytes that were read are answered next; at the end of the
+// input, the bytes that were kept; if the read failed, the program stops.
 fn came(before: State, got: Got) -> State
     requires { ⌜ (before .from ≤ before .end) × Fits before got ⌝ }
     ensures { λ r. ⌜ r ≡ after-read before got ⌝ }
@@ -170,8 +170,8 @@ fn came(before: State, got: Got) -> State
     }
 }
 
-// Reads once where input is to be read: what is not answered is moved to the front, and the bytes
-// that are read are stored after it.
+// Reads once, if input is to be read. The bytes that are not answered are moved to the front, and
+// the bytes that are read are stored after them.
 pub fn fill(input: &mut [u8], before: State) -> State
     requires { ⌜ Holds (now input) before × (4096 < length (now input)) × (length (now input) < 2 ^ 63) ⌝ }
     ensures { λ r. ⌜ Filled (now (input .entry)) (now (input .exit)) before r ⌝ }
@@ -188,7 +188,7 @@ pub fn fill(input: &mut [u8], before: State) -> State
     came(before, heard(got))
 }
 
-// What is done after a write: at the first one that fails the program stops.
+// Returns what is done after a write: if the write failed, the program stops.
 pub fn decided(wrote: bool, next: Next) -> Next
     ensures { λ r. ⌜ r ≡ after-write wrote next ⌝ }
 {
@@ -198,7 +198,7 @@ pub fn decided(wrote: bool, next: Next) -> Next
     next
 }
 
-// Before the first step: nothing is read yet.
+// Returns the state before the first step: nothing is read yet.
 pub fn fresh() -> State
     ensures { λ r. ⌜ r ≡ start ⌝ }
 {
@@ -212,7 +212,7 @@ pub fn fresh() -> State
     }
 }
 
-// Whether the program stops; a failure is reported on standard error.
+// Whether the program stops. A failure is reported on standard error.
 pub fn stopped(next: Next) -> bool
     ensures { λ r. ⌜ r ≡ stops next ⌝ }
 {

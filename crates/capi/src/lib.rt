@@ -1,5 +1,6 @@
-// The four calls of the reading, for C and Rust to link. Each has one more parameter, which gets the answer: the refusal's number (0 where the text is
-// accepted), its place, steps, charged total, wraps, and the length of what was written.
+// The four calls of the reading, for C and Rust to link. Each has one more parameter, which
+// receives the answer: the number of the refusal (0 if the text is accepted), its place, steps,
+// charged total, wraps, and the length of what was written.
 ghost use lib.ListN.{length};
 ghost use Rattle.definition.specs.Reading as Reading;
 ghost use Rattle.endings.specs.Calls.{Scratch};

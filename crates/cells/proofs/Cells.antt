@@ -1,4 +1,4 @@
--- A list in cells: one cell more, and what stays when records are added.
+-- A list in cells: one more cell, and what is unchanged when records are added.
 use mathlib.Core.Path.{_≡_, refl, sym, ap, _∙_, subst}
 use mathlib.Core.Bool.{Bool, true, false}
 use mathlib.Core.List.{List, [], _∷_}
@@ -23,7 +23,7 @@ use Rattle.nodes.proofs.Taking.{less-spare}
 use Rattle.cells.specs.Cells.{grown, Listed, CellFits, Adds, Labels}
 use Rattle.cells.specs.declared.Chain.{Chain}
 
--- cells stay where records are added above them, and may be found from another field
+-- cells are unchanged where records are added above them, and may be found from another field
 pub cells-move : {w w′ : List ℕ} {N top : ℕ} (nm : Names) → Keeps w w′ N top → (ns : Nodes) (k k′ : ℕ) (f f′ : ℕ → ℕ) (p p′ : ℕ) → p ≤ top → p ≤ p′ → f′ k′ ≡ f k → Cells (Named nm) ns k f w p → Cells (Named nm) ns k′ f′ w′ p′
 cells-move nm q nil k k′ f f′ p p′ a b e c = tt
 cells-move {w} {w′} {N} {top} nm q (cons l n ns) k k′ f f′ p p′ a b e c =
@@ -47,7 +47,7 @@ cells-move {w} {w′} {N} {top} nm q (cons l n ns) k k′ f f′ p p′ a b e c 
     }
 
 module _ {w w′ : List ℕ} {N : ℕ} {nm : Names} {ns : Nodes} {l : Chain} where
-  -- a list stays where records are added above it
+  -- a list is unchanged where records are added above it
   pub listed-moves : {top : ℕ} (top′ : ℕ) → Keeps w w′ N top → top ≤ top′ → Listed nm ns w top l → Listed nm ns w′ top′ l
   listed-moves {top} top′ q a c = record { many-is = c .many-is; sizes-is = c .sizes-is; cells = cells-move nm q ns 0 0 (λ _. l .first) (λ _. l .first) top top′ (omega arith) a refl (c .cells) }
 
@@ -85,7 +85,7 @@ adds {w} {w′} {N} {st} {u} {l} {label} {p} a b c d z g ea eb ec ed ez fits =
     }
 
 -- LABELS
--- a tree that was tried for is of the kind that was wanted
+-- a tree that was tried for has the wanted kind
 pub tried-kind : (want : ℕ → Bool) (m m₁ : Demangler) (x : Node) → R.try want m ≡ ok (some x) m₁ → T (want (kind x))
 unfolding M.try M.try-from
 tried-kind want m m₁ x = of (m .stack)

@@ -1,4 +1,4 @@
--- What there is to spare on the way through a list.
+-- What there is to spare while a list is taken.
 use mathlib.Core.Bool.{Bool}
 use mathlib.Core.List.{List}
 use Prim.Native.Nat.{ℕ, _+_, _≤_}
@@ -61,7 +61,7 @@ module _ {f : Run Node} {gain : ℕ} {w w′ : List ℕ} {N : ℕ} {st u : State
         listed = listed-moves (u .top) (g .keeps) (g .rising) (b .listed);
       }
 
-  -- the sizes of the list and of the tree together
+  -- the sum of the sizes of the list and of the tree
   pub taken-sum : l .sum + at w′ p 1 ≤ 262144
   taken-sum =
       let t = g .gives (b .names) (grown (b .list) sp) (b .machine) (b .holds) in

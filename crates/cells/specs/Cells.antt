@@ -1,4 +1,4 @@
--- Lists that operators take from the stack: how they lie in the workspace, cell by cell.
+-- Lists that operators take from the stack: how they are stored in the workspace, cell by cell.
 use mathlib.Core.Path.{_≡_}
 use mathlib.Core.List.{List}
 use mathlib.Core.Option.{Option}
@@ -16,17 +16,18 @@ use Rattle.cells.specs.declared.Chain.{Chain}
 use Rattle.cells.specs.declared.Added.{Added}
 use Rattle.cells.specs.declared.LabelTaken.{LabelTaken}
 
--- what there is to spare after the nodes of a list were taken, and a cell made of each
+-- what there is to spare after the nodes of a list were taken and a cell was made for each
 abbrev pub grown : Nodes → Spare → Spare
 grown ns sp = spare (sp .makes) (sp .pushes + many ns) (sp .nodes + sizes ns) (sp .keeps)
 
--- the list ns lies in w, its cells below top: how many, their sizes together, the place of the first
+-- the list ns is stored in w, its cells below top: their number, the sum of their sizes, the place
+-- of the first
 pub record Listed (nm : Names) (ns : Nodes) (w : List ℕ) (top : ℕ) (l : Chain) : Type 0 where
   pub many-is : l .count ≡ many ns
   pub sizes-is : l .sum ≡ sizes ns
   pub cells : Cells (Named nm) ns 0 (λ _. l .first) w top
 
--- some machine lies there, and some list of what was taken from it
+-- w holds some machine, and some list of what was taken from it
 pub record Gathering (w : List ℕ) (N : ℕ) (st : State) (sp : Spare) (l : Chain) : Type 0 where
   pub names : Names
   pub machine : Demangler

@@ -9,26 +9,28 @@ use records::Fields;
 use records::Popped;
 use records::State;
 
-// A list that was taken from the stack: how many nodes, their sizes together, and the place of the first cell.
+// A list that was taken from the stack: the number of nodes, the sum of their sizes, and the place
+// of the first cell.
 pub struct Chain {
     pub count: u32,
     pub sum: u32,
     pub first: u32,
 }
 
-// A list with one cell more, and the state with its record.
+// A list with one more cell, and the state with its record.
 pub struct Added {
     pub list: Chain,
     pub next: State,
 }
 
-// The number of a label that was on top, or 4,294,967,295 for none, and the state without it.
+// The number of a label that was on top, or 4,294,967,295 if there was none, and the state without
+// it.
 pub struct LabelTaken {
     pub label: u32,
     pub next: State,
 }
 
-// The tree at place p in front of a list, with a label.
+// Adds a cell to the front of a list: the tree at place p, with a label.
 pub fn cell(ws: &mut [u32], n: usize, st: State, l: Chain, label: u32, p: usize) -> Added
     requires { ⌜ CellFits (now ws) n st l p ⌝ }
     ensures { λ r. ⌜ Adds (now (ws .entry)) (now (ws .exit)) n st l label p r ⌝ }
@@ -53,7 +55,7 @@ pub fn cell(ws: &mut [u32], n: usize, st: State, l: Chain, label: u32, p: usize)
     Added { list, next }
 }
 
-// The label on top, if there is one.
+// Takes the label on top, if there is one.
 pub fn label(ws: &[u32], n: usize, st: State) -> LabelTaken
     requires { ⌜ Ready (now ws) n st nothing-spare ⌝ }
     ensures { λ r. ⌜ Labels (now (ws .entry)) n st r ⌝ }
@@ -70,7 +72,7 @@ pub fn label(ws: &[u32], n: usize, st: State) -> LabelTaken
     }
 }
 
-// A node over a list, on top of the stack.
+// Pushes a node over a list.
 pub fn push_list(ws: &mut [u32], n: usize, st: State, l: Chain, kind: u32) -> State
     requires { ⌜ Gathering (now ws) n st full-spare l ⌝ }
     ensures { λ r. ⌜ Left (now (ws .entry)) (now (ws .exit)) n st r (kind ∷ (l .sum + 1) ∷ l .count ∷ l .first ∷ 0 ∷ 0 ∷ 0 ∷ 0 ∷ []) ⌝ }

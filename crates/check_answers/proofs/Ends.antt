@@ -1,4 +1,4 @@
--- What the check's end comes to. Assumes nothing.
+-- The result at the end of the check. Assumes nothing.
 use mathlib.Core.Path.{_≡_, refl, sym, ap, subst, _∙_}
 use mathlib.Core.Bool.{Bool, true, false, not}
 use mathlib.Core.List.{List, [], reverse}

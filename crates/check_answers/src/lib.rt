@@ -1,4 +1,4 @@
-// What the check's run comes to: the answer of a call, once the checks before the run have passed.
+// The result of the check's run: the answer of a call, once the checks before the run have passed.
 ghost use mathlib.Core.Path.{_≡_};
 ghost use mathlib.Core.Bool.{true};
 ghost use Prim.Native.Nat.{_-_, _*_, _≤_};
@@ -19,7 +19,7 @@ use endings::counts;
 use endings::stacked;
 use runs::Final;
 
-// The whole check of text[start..end].
+// Checks all of text[start..end].
 pub fn check_body(
     text: &[u8],
     start: usize,
@@ -43,7 +43,7 @@ pub fn check_body(
     }
 }
 
-// The check of text[start..end], stopped after k operators, and its entries.
+// Checks text[start..end], stops after k operators, and writes the entries.
 pub fn check_stopped_body(
     text: &[u8],
     start: usize,

@@ -1,4 +1,4 @@
--- Answers about a step made of parts. Assumes nothing.
+-- Results of a step made of parts. Assumes nothing.
 use mathlib.Core.Path.{_≡_, sym, ap, subst, _∙_}
 use mathlib.Core.List.{List}
 use Prim.Native.Nat.{ℕ, _≤_}
@@ -21,7 +21,8 @@ use Rattle.check_turns.specs.Turns.{Reaches, Refuses, Turning, Performed
 use Rattle.check_turns.specs.declared.Turned.{Turned}
 use Rattle.check_turns.specs.declared.Turned.the-variants as Turned
 
--- an answer to one step is one to a step that does the same, also from a state with another budget
+-- a result of one step is a result of any step that does the same, also from a state with another
+-- budget
 pub turning-is : (N : ℕ) (text : Text) (w w₁ : List ℕ) (st st₁ : State) (f g : Check Text) → f (machine-of w N st) ≡ g (machine-of w N st₁) → (r : Turned) → Turning g N text w w₁ st₁ r → Turning f N text w w₁ st r
 turning-is N text w w₁ st st₁ f g q (Turned.To u c) h = record { is = q ∙ h .is; inside = h .inside; sound = h .sound; outside = h .outside }
 turning-is N text w w₁ st st₁ f g q (Turned.Refused r) h = record { is = q ∙ h .is; outside = h .outside }

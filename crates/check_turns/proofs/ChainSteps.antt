@@ -1,4 +1,4 @@
--- The letters behind `A`, performed one by one. Assumes nothing.
+-- The letters after `A`, performed one by one. Assumes nothing.
 use mathlib.Core.Path.{_≡_, refl, sym, ap, subst, _∙_}
 use mathlib.Core.Bool.{Bool, true, false}
 use mathlib.Core.List.{List}
@@ -48,7 +48,7 @@ module _ (N : ℕ) (m : Shapes) where
 
 -- ONE ITEM
 module _ {N : ℕ} {w : List ℕ} {st : State} (s : Sound 0 N w st) where
-  -- an index that lies past every remembered entry is refused as any other such is
+  -- an index past every remembered entry is refused like any other such index
   same-index : {i j : ℕ} (t : ℕ) → Same i j → recall-copies N t j (machine-of w N st) ≡ recall-copies N t i (machine-of w N st)
   same-index t (inl q) = ap (λ (k : ℕ). recall-copies N t k (machine-of w N st)) (sym q)
   same-index {i} {j} t (inr p) = not-recalled N w st t j (omega (arith, p .1, sound-seen s, s .total, s .ceiling)) .is ∙ sym (not-recalled N w st t i (omega (arith, p .0, sound-seen s, s .total, s .ceiling)) .is)
@@ -81,7 +81,7 @@ module _ {N : ℕ} {w : List ℕ} {st : State} (s : Sound 0 N w st) where
     pub item-broken : {r : Refusal} → Breaks (chain (drop at text)) (number r) → Refuses (chained N text at) N w w st r
     item-broken {r} b = record { is = ap (λ (ch : Chain). performs N (outcome ch) (machine-of w N st)) (b .is) ∙ performs-bad N (machine-of w N st) (number r) (b .rest); outside = beyond-itself _ _ }
 
--- ALL ITEMS: what is left to do from here comes to what the whole does
+-- ALL ITEMS: the remaining work from here has the same result as the whole
 pub record Chaining (N : ℕ) (text : Text) (from at : ℕ) (w w₁ : List ℕ) (st u : State) : Type 0 where
   pub is : chained N text from (machine-of w N st) ≡ chained N text at (machine-of w₁ N u)
   pub sound : Sound 0 N w₁ u

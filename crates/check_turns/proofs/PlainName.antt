@@ -29,7 +29,7 @@ use Rattle.check_turns.specs.Turns.{with-words, Charged, PlainReaches, P
 use Rattle.check_turns.proofs.OneOperator.{one-name}
 use Rattle.check_turns.proofs.TurnSteps.{turn-refused, same-words, turn-begun, begin-sound}
 
--- the words of a machine that a step comes to
+-- the words of the machine that a step ends with
 words-after : Out Shapes Done → ℕ
 words-after (ok x m) = m .words
 words-after (refused r) = 0

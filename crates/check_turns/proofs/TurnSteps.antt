@@ -1,4 +1,4 @@
--- The step and the charge as a turn begins. Assumes nothing.
+-- The step and the charge at the beginning of a turn. Assumes nothing.
 use mathlib.Core.Path.{_≡_, refl, sym, ap, subst, _∙_}
 use mathlib.Core.List.{List}
 use Prim.Native.Nat.{ℕ}
@@ -79,7 +79,7 @@ module _ (N : ℕ) where
   turn-is t m = sym (inner (spend B.step m) (spend (B.charge N 1)) (Ch.one N t)) ∙ ap (λ (o : Out Shapes Done). and-then o (λ x. Ch.one N t)) (begin-is m)
 
   module _ (w : List ℕ) (st : State) where
-    -- it is refused as it begins, however many words are known
+    -- it is refused at its beginning, however many words are known
     pub turn-refused : (r : Refusal) → (B.step >> B.charge N 1) (budget-of (st .budget)) ≡ refused (number r) → (v : ℕ) (t : Text) → turn N (Ch.one N) t (machine-of w N (with-words v st)) ≡ refused (number r)
     turn-refused r q v t = turn-is t (machine-of w N (with-words v st)) ∙ ap (λ (o : Out B.Budget Done). and-then (spent o (machine-of w N (with-words v st))) (λ x. Ch.one N t)) q
 
@@ -104,7 +104,7 @@ module _ (N : ℕ) where
           turning-is N text w w₁ st u (turn N (Ch.one N) (drop at text)) (Ch.one N (drop at text))
           (turn-begun (st .words) (drop at text) ∙ ap (λ (v : ℕ). Ch.one N (drop at text) (machine-of w N (with-words v u))) (sym same-words)) r g
 
-      -- the charge is there for the operator
+      -- the charge is available for the operator
       pub begin-sound : Sound 0 N w st → Sound 1 N w u
       begin-sound s =
           let q : (spend B.step >> spend (B.charge N 1)) (machine-of w N st) ≡ ok tt (machine-of w N u) =

@@ -1,4 +1,4 @@
--- What the answers of a turn over a workspace say of the definition's check.
+-- What the results of a turn over a workspace say about the definition's check.
 use mathlib.Core.Path.{_≡_}
 use mathlib.Core.List.{List}
 use Prim.Native.Nat.{ℕ, _≤_, _<_}
@@ -32,7 +32,8 @@ use Rattle.check_turns.specs.declared.Begun.the-variants as Begun
 use Rattle.check_turns.specs.declared.PlainTurned.{PlainTurned}
 use Rattle.check_turns.specs.declared.PlainTurned.the-variants as PlainTurned
 
--- the step comes to the text from c on, and to the machine of u in the workspace w₁, which fits what is charged
+-- the step ends at the text from c on, with the machine of u in the workspace w₁, which fits what
+-- is charged
 pub record Reaches (f : Check Text) (N : ℕ) (text : Text) (w w₁ : List ℕ) (st u : State) (c : Cursor) : Type 0 where
   pub is : f (machine-of w N st) ≡ ok (drop (c .at) text) (machine-of w₁ N u)
   pub inside : c .at ≤ length text
@@ -47,7 +48,7 @@ abbrev pub Turning : Check Text → (N : ℕ) → Text → (w w₁ : List ℕ) �
 Turning f N text w w₁ st (Turned.To u c) = Reaches f N text w w₁ st u c
 Turning f N text w w₁ st (Turned.Refused r) = Refuses f N w w₁ st r
 
--- an operator's letters that were read, then its row
+-- the letters of an operator that were read, then its row
 abbrev pub performs : (N : ℕ) → Out Text Op.Operator → Check Text
 performs N out = then-run out (λ op. C.run-row N (C.row op))
 
@@ -55,7 +56,7 @@ performs N out = then-run out (λ op. C.run-row N (C.row op))
 abbrev pub chained : (N : ℕ) → Text → ℕ → Check Text
 chained N text at = performs N (outcome (chain (drop at text)))
 
--- one item of `A` is done, and the rest comes to what the whole does
+-- one item of `A` is done, and the rest has the same result as the whole
 pub record Goes (N : ℕ) (text : Text) (at : ℕ) (w w₁ : List ℕ) (st u : State) (c : Cursor) : Type 0 where
   pub is : chained N text at (machine-of w N st) ≡ chained N text (c .at) (machine-of w₁ N u)
   pub inside : c .at ≤ length text
@@ -78,12 +79,12 @@ abbrev pub Performed : Check Done → (N : ℕ) → (w w₁ : List ℕ) → Stat
 Performed f N w w₁ st next (Turned.To u c) = Did f N w w₁ st next u c
 Performed f N w w₁ st next (Turned.Refused r) = Failed f N w w₁ st r
 
--- A TURN'S BEGINNING
+-- THE BEGINNING OF A TURN
 -- the state with another budget
 abbrev pub with-budget : Budget → State → State
 with-budget b st = record { budget = b; depth = st .depth; seen = st .seen; words = st .words }
 
--- a step and a charge of 1 come to the budget of u, and the rest of the state is as it was
+-- a step and a charge of 1 result in the budget of u, and the rest of the state is unchanged
 pub record Charged (N : ℕ) (st u : State) : Type 0 where
   pub is : (B.step >> B.charge N 1) (budget-of (st .budget)) ≡ ok tt (budget-of (u .budget))
   pub rest : u ≡ with-budget (u .budget) st
@@ -97,8 +98,9 @@ Begins N st (Begun.Refused r) = (B.step >> B.charge N 1) (budget-of (st .budget)
 abbrev pub with-words : ℕ → State → State
 with-words v st = record { budget = st .budget; depth = st .depth; seen = st .seen; words = v }
 
--- However many words are known before the name, the turn comes to the text behind the literal text[from..], and those of the literal are
--- counted to them; the state has the words that it had
+-- However many words are known before the name, the turn ends at the text after the literal
+-- text[from..], and the words of the literal are added to the count. The number of words in the
+-- state is unchanged
 pub record PlainReaches (N : ℕ) (text : Text) (at : ℕ) (w w₁ : List ℕ) (st u : State) (from : ℕ) (c : Cursor) : Type 0 where
   pub is : (v : ℕ) → turn N (Ch.one N) (drop at text) (machine-of w N (with-words v st)) ≡ ok (drop (c .at) text) (machine-of w₁ N (with-words (Ch.count-words-from 0 0 (part text from (c .at)) v) u))
   pub words : u .words ≡ st .words

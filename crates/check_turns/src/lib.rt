@@ -1,4 +1,4 @@
-// One turn of the shape check's run: an operator's letters are read and performed.
+// One turn of the shape check's run: reads the letters of an operator and performs it.
 ghost use mathlib.Core.Path.{_≡_};
 ghost use mathlib.Core.Bool.{true, false};
 ghost use Prim.Native.Nat.{_≤_, _<_};
@@ -24,32 +24,33 @@ use stores::Step;
 use substitutions::SubstitutionRead;
 use text::Cursor;
 
-// The state after an operator and the cursor behind it, or its refusal.
+// The state after an operator and the cursor after it, or its refusal.
 pub enum Turned {
     To(State, Cursor),
     Refused(Refusal),
 }
 
-// One item behind `A` was performed: more follow, it was the last, or it is refused.
+// One item after `A` was performed: more follow, it was the last, or it is refused.
 pub enum Letter {
     More(State, Cursor),
     Last(State, Cursor),
     Refused(Refusal),
 }
 
-// A turn has begun: its step is counted and its node charged.
+// The beginning of a turn: its step is counted and its node is charged.
 enum Begun {
     Next(State),
     Refused(Refusal),
 }
 
-// The state after a name of one literal, where the literal starts, and the cursor behind it; or its refusal.
+// The state after a name of one literal, the start of the literal, and the cursor after it; or its
+// refusal.
 pub enum PlainTurned {
     To(State, usize, Cursor),
     Refused(Refusal),
 }
 
-// The next item behind `A`: so many copies of a remembered entry.
+// Performs the next item after `A`: pushes that many copies of a remembered entry.
 fn item(text: &[u8], c: Cursor, ws: &mut [u32], ceiling: usize, st: State) -> Letter
     requires { ⌜ Sound 0 ceiling (now ws) st ⌝ }
     ensures { λ r. ⌜ Letters ceiling (now (text .entry)) (c .at) (now (ws .entry)) (now (ws .exit)) st r ⌝ }
@@ -72,7 +73,7 @@ fn item(text: &[u8], c: Cursor, ws: &mut [u32], ceiling: usize, st: State) -> Le
     }
 }
 
-// `A`, from the cursor behind it: its items one by one.
+// Performs `A`, from the cursor after it: its items one by one.
 fn substitutions(text: &[u8], from: Cursor, ws: &mut [u32], ceiling: usize, st: State) -> Turned
     requires { ⌜ Sound 0 ceiling (now ws) st ⌝ }
     ensures { λ r. ⌜ Turning (performs ceiling (outcome (chain (drop (from .at) (now (text .entry)))))) ceiling (now (text .entry)) (now (ws .entry)) (now (ws .exit)) st r ⌝ }
@@ -95,7 +96,7 @@ fn substitutions(text: &[u8], from: Cursor, ws: &mut [u32], ceiling: usize, st: 
     }
 }
 
-// A name, whose identifier begins at the cursor.
+// Performs a name whose identifier begins at the cursor.
 fn named(text: &[u8], c: Cursor, ws: &mut [u32], ceiling: usize, st: State) -> Turned
     requires { ⌜ Sound 1 ceiling (now ws) st × (c .at ≤ length (now text)) × (length (now text) ≤ 65535) × (Text.well-formed (now text) ≡ true) ⌝ }
     ensures { λ r. ⌜ Turning (Calls.then-run (Ch.identifier (st .words) (drop (c .at) (now (text .entry)))) (λ x. Ch.name ceiling (x .words))) ceiling (now (text .entry)) (now (ws .entry)) (now (ws .exit)) st r ⌝ }
@@ -107,7 +108,7 @@ fn named(text: &[u8], c: Cursor, ws: &mut [u32], ceiling: usize, st: State) -> T
     }
 }
 
-// An operator that was read, but for `A`; the cursor stands behind it.
+// Performs an operator that was read, other than `A`. The cursor is after it.
 fn performed(ws: &mut [u32], ceiling: usize, st: State, op: Operator, next: Cursor) -> Turned
     requires { ⌜ Sound 1 ceiling (now ws) st ⌝ }
     ensures { λ r. ⌜ Performed (C.run-row ceiling (C.row (Enums.operator fixed op))) ceiling (now (ws .entry)) (now (ws .exit)) st next r ⌝ }
@@ -118,7 +119,7 @@ fn performed(ws: &mut [u32], ceiling: usize, st: State, op: Operator, next: Curs
     }
 }
 
-// The operator that begins at the cursor, where no digit stands.
+// Reads and performs the operator at the cursor, where the byte is not a digit.
 fn operated(text: &[u8], c: Cursor, ws: &mut [u32], ceiling: usize, st: State) -> Turned
     requires { ⌜ Sound 1 ceiling (now ws) st × (c .at < length (now text)) × (digit (getD (now text) (c .at) 0) ≡ false) ⌝ }
     ensures { λ r. ⌜ Turning (Ch.one ceiling (drop (c .at) (now (text .entry)))) ceiling (now (text .entry)) (now (ws .entry)) (now (ws .exit)) st r ⌝ }
@@ -130,7 +131,7 @@ fn operated(text: &[u8], c: Cursor, ws: &mut [u32], ceiling: usize, st: State) -
     }
 }
 
-// A turn begins: a step, and a charge of 1.
+// Begins a turn: counts a step, and charges 1.
 fn begin(ceiling: usize, st: State) -> Begun
     ensures { λ r. ⌜ Begins ceiling st r ⌝ }
 {
@@ -149,7 +150,7 @@ fn begin(ceiling: usize, st: State) -> Begun
     }
 }
 
-// One turn of `run` where no digit stands.
+// One turn of `run` where the byte at the cursor is not a digit.
 pub fn turn(text: &[u8], c: Cursor, ws: &mut [u32], ceiling: usize, st: State) -> Turned
     requires { ⌜ Sound 0 ceiling (now ws) st × (c .at < length (now text)) × (digit (getD (now text) (c .at) 0) ≡ false) ⌝ }
     ensures { λ r. ⌜ Turning (Calls.turn ceiling (Ch.one ceiling) (drop (c .at) (now (text .entry)))) ceiling (now (text .entry)) (now (ws .entry)) (now (ws .exit)) st r ⌝ }
@@ -160,7 +161,7 @@ pub fn turn(text: &[u8], c: Cursor, ws: &mut [u32], ceiling: usize, st: State) -
     }
 }
 
-// One turn of `run` where a digit stands: a name.
+// One turn of `run` where the byte at the cursor is a digit: a name.
 pub fn name_turn(text: &[u8], c: Cursor, ws: &mut [u32], ceiling: usize, st: State) -> Turned
     requires { ⌜ Sound 0 ceiling (now ws) st × (c .at < length (now text)) × (digit (getD (now text) (c .at) 0) ≡ true) × (length (now text) ≤ 65535) × (Text.well-formed (now text) ≡ true) ⌝ }
     ensures { λ r. ⌜ Turning (Calls.turn ceiling (Ch.one ceiling) (drop (c .at) (now (text .entry)))) ceiling (now (text .entry)) (now (ws .entry)) (now (ws .exit)) st r ⌝ }
@@ -171,7 +172,8 @@ pub fn name_turn(text: &[u8], c: Cursor, ws: &mut [u32], ceiling: usize, st: Sta
     }
 }
 
-// One turn of `run` where a digit stands that is no `0`: a name of one literal, whose words are not counted.
+// One turn of `run` where the byte at the cursor is a digit other than `0`: a name of one literal,
+// whose words are not counted.
 pub fn plain_turn(text: &[u8], c: Cursor, ws: &mut [u32], ceiling: usize, st: State) -> PlainTurned
     requires { ⌜ Sound 0 ceiling (now ws) st × (c .at < length (now text)) × (digit (getD (now text) (c .at) 0) ≡ true) × (is "0" (getD (now text) (c .at) 0) ≡ false) × (Text.well-formed (now text) ≡ true) ⌝ }
     ensures { λ r. ⌜ PlainTurning ceiling (now (text .entry)) (c .at) (now (ws .entry)) (now (ws .exit)) st r ⌝ }

@@ -38,7 +38,7 @@ use Rattle.check_turns.specs.declared.PlainTurned.the-variants as PlainTurned
 use Rattle.check_turns.specs.declared.Turned.{Turned}
 use Rattle.check_turns.specs.declared.Turned.the-variants as Turned
 
--- THE WORDS of the definition's machine: those of the state, and those of the literals that wait
+-- THE WORDS of the definition's machine: those of the state, and those of the waiting literals
 abbrev pub all-words : Text → Waiting → State → ℕ
 all-words body q u = noted-behind (count-words-from 0 0) body q (u .words)
 
@@ -51,7 +51,7 @@ sound-words v s = record {
   fits = record { depth = s .fits .depth; weight = s .fits .weight; kept = s .fits .kept; sized = s .fits .sized; remembered = s .fits .remembered };
 }
 
--- THE LOOP: i turns are done, and the rest comes to what the whole does
+-- THE LOOP: i turns are done, and the rest has the same result as the whole
 pub record Running (N k : ℕ) (body : Text) (w w₁ : List ℕ) (i at : ℕ) (u : State) (q : Waiting) : Type 0 where
   pub is : check N k body ≡ turns (turn N (Ch.one N)) (k - i) (drop at body) (machine-of w₁ N (with-words (all-words body q u) u))
   pub inside : at ≤ length body
@@ -59,7 +59,7 @@ pub record Running (N k : ℕ) (body : Text) (w w₁ : List ℕ) (i at : ℕ) (u
   pub outside : Beyond 8 N w w₁
   pub waits : Waits body q
 
--- nothing lies on the stack, and nothing is remembered
+-- nothing is on the stack, and nothing is remembered
 abbrev pub at-first : Budget → State
 at-first b = record { budget = b; depth = 0; seen = 0; words = 0 }
 
@@ -86,7 +86,7 @@ module _ (N k : ℕ) (body : Text) (w : List ℕ) {b : Budget} (q : budget-of b 
     waits = a;
   }
 
--- a turn where no digit stands, with other words
+-- a turn where the byte is not a digit, with other words
 module _ (N : ℕ) (body : Text) (at : ℕ) (l : at < length body) (d : digit (getD body at 0) ≡ false) where
   apart-here : (v : ℕ) (m : Shapes) → turn N (Ch.one N) (drop at body) (rewords v m) ≡ reworded v (turn N (Ch.one N) (drop at body) m)
   apart-here v m = subst⁻¹ (λ (t : Text). turn N (Ch.one N) t (rewords v m) ≡ reworded v (turn N (Ch.one N) t m)) (front body at l) (turn-apart N (getD body at 0) (drop (at + 1) body) d v m)
@@ -134,7 +134,7 @@ module _ {N k : ℕ} {body : Text} {w w₁ : List ℕ} {i at : ℕ} {u : State} 
       outside = beyond-both (h .outside) o;
     }
 
-    -- no digit stands there: the literals go on waiting
+    -- the byte there is not a digit: the literals keep waiting
     module _ (d : digit (getD body at 0) ≡ false) where
       pub run-more : {w₂ : List ℕ} {x : State} (c : Cursor) → Reaches (turn N (Ch.one N) (drop at body)) N body w₁ w₂ u x c → Running N k body w w₂ (i + 1) (c .at) x q
       run-more {w₂} {x} c g =
@@ -148,7 +148,8 @@ module _ {N k : ℕ} {body : Text} {w w₁ : List ℕ} {i at : ℕ} {u : State} 
       pub run-stopped : {w₂ : List ℕ} (r : Refusal) → Refuses (turn N (Ch.one N) (drop at body)) N w₁ w₂ u r → Stopped N k body w w₂ r at
       run-stopped r g = turned-not r (apart-here N body at l d (all-words body q u) (machine-of w₁ N u) ∙ ap (reworded (all-words body q u)) (g .is)) (g .outside)
 
-    -- an identifier that may look for words: all that waits is counted before it, and none waits behind it
+    -- an identifier that may use words: all waiting literals are counted before it, and none waits
+    -- after it
     module _ (n : ℕ) (e : n ≡ all-words body q u) where
       counted-machine : machine-of w₁ N (with-words (all-words body q u) u) ≡ machine-of w₁ N (with-words n u)
       counted-machine = ap (λ (v : ℕ). machine-of w₁ N (with-words v u)) (sym e)
@@ -162,7 +163,7 @@ module _ {N k : ℕ} {body : Text} {w w₁ : List ℕ} {i at : ℕ} {u : State} 
       pub run-not-named : {w₂ : List ℕ} (r : Refusal) → Refuses (turn N (Ch.one N) (drop at body)) N w₁ w₂ (with-words n u) r → Stopped N k body w w₂ r at
       run-not-named r g = turned-not r (ap (turn N (Ch.one N) (drop at body)) counted-machine ∙ g .is) (g .outside)
 
-    -- a name of one literal, which waits behind the others
+    -- a name of one literal, which waits after the others
     pub run-plain : {w₂ : List ℕ} {x : State} {from : ℕ} (c : Cursor) {p : Waiting} → PlainReaches N body at w₁ w₂ u x from c → More body from (c .at) q p → Running N k body w w₂ (i + 1) (c .at) x p
     run-plain {w₂} {x} {from} c {p} g a =
         let e : all-words body p x ≡ count-words-from 0 0 (part body from (c .at)) (all-words body q u) =

@@ -1,4 +1,4 @@
--- The stack's entries as numbers, and one entry that is left. Assumes nothing.
+-- The entries of the stack as numbers, and one entry that is left. Assumes nothing.
 use mathlib.Core.Path.{_≡_, refl, sym, ap, _∙_}
 use mathlib.Core.Bool.{Bool, true, false}
 use mathlib.Core.List.{List, [], _∷_, _++_, reverse, reverse-cons, append-assoc}
@@ -45,7 +45,7 @@ take-three w n h =
     let y : n + 2 ≡ suc (suc n) = omega arith in
     rw (z, y, add-one n, a, b, d) (simp append-assoc)
 
--- what lies in the workspace is the stack with the first pushed first
+-- the contents of the workspace are the stack, in the order in which it was pushed
 pub stack-numbers : (w : List ℕ) (d : ℕ) → 3 * d ≤ length w → entry-numbers (reverse (stack-of w d)) ≡ take (3 * d) w
 unfolding stack-of entry-numbers
 stack-numbers w zero h = refl
@@ -62,7 +62,7 @@ module _ (w : List ℕ) (d : ℕ) (h : 3 * d ≤ length w) where
   pub too-many : {out : List ℕ} → length out < 3 * d → TooMany (entry-numbers (reverse (stack-of w d))) out out
   too-many p = record { past = omega (arith, numbers-length); same = refl }
 
-  -- so many numbers were copied to the front
+  -- that many numbers were copied to the front
   pub all-numbers : {out out₁ : List ℕ} {n : ℕ} (i : ℕ) → n ≡ 3 * d → i ≡ n → n ≤ length out → out₁ ≡ paste out 0 w i → Front (entry-numbers (reverse (stack-of w d))) out out₁ n
   all-numbers {out} {out₁} {n} i e k l q =
       let z : i ≡ 3 * d = omega arith in
@@ -73,7 +73,7 @@ module _ (w : List ℕ) (d : ℕ) (h : 3 * d ≤ length w) where
         is = q ∙ (ap (λ (x : ℕ). take i w ++ drop x out) y ∙ (ap (λ (x : ℕ). take x w ++ drop n out) z ∙ ap (λ (x : List ℕ). x ++ drop n out) (sym (stack-numbers w d h))));
       }
 
--- COPYING: i numbers of w stand at the front of out
+-- COPYING: i numbers of w are at the front of out
 pub record Copying (w out out₁ : List ℕ) (i : ℕ) : Type 0 where
   pub is : out₁ ≡ paste out 0 w i
   pub long : length out₁ ≡ length out

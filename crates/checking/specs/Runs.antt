@@ -1,4 +1,4 @@
--- What the answers of a run over a workspace say of the definition's check.
+-- What the results of a run over a workspace say about the definition's check.
 use mathlib.Core.Path.{_≡_}
 use mathlib.Core.List.{List}
 use Prim.Native.Nat.{ℕ, _-_, _≤_}
@@ -23,14 +23,14 @@ use Rattle.checking.specs.declared.Ended.the-variants as Ended
 abbrev pub check : (N k : ℕ) → Text → End Shapes
 check N k body = turns (turn N (Ch.one N)) k body (fresh 0)
 
--- the machine of u, but for its words
+-- the machine of u, except for its words
 pub record Ran (N k : ℕ) (body : Text) (w w₁ : List ℕ) (u : State) : Type 0 where
   pub words : ℕ
   pub is : check N k body ≡ ran (machine-of w₁ N (with-words words u))
   pub sound : Sound 0 N w₁ u
   pub outside : Beyond 8 N w w₁
 
--- the operator that is refused began at the place `at` of the body
+-- the refused operator began at the place `at` of the body
 pub record Stopped (N k : ℕ) (body : Text) (w w₁ : List ℕ) (r : Refusal) (at : ℕ) : Type 0 where
   pub is : check N k body ≡ stopped (number r) (length body - at)
   pub inside : at ≤ length body

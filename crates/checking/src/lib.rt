@@ -1,4 +1,4 @@
-// The shape check's run, one turn after another, and what its end comes to.
+// The shape check's run, turn by turn, and the result at its end.
 ghost use mathlib.Core.Path.{_≡_};
 ghost use mathlib.Core.Bool.{true};
 ghost use mathlib.Core.List.{reverse};
@@ -26,7 +26,8 @@ use waiting::Waiting;
 use waiting::count_waiting;
 use waiting::wait;
 
-// The state at a run's end; or the refusal, and where in the body the operator began that is refused.
+// The state at the end of a run; or the refusal, and the place in the body where the refused
+// operator begins.
 pub enum Ended {
     Ran(State),
     Stopped(Refusal, usize),
@@ -34,8 +35,10 @@ pub enum Ended {
 
 // Runs
 
-// `run` by its turns: k of them, or fewer if the body ends. It starts afresh, whatever the workspace holds. The words of a literal are
-// counted only before an identifier that begins with `0`, or where 16 literals wait: of the state that a run ends with, the words say nothing.
+// Performs the turns of `run`: k of them, or fewer if the body ends. It starts anew, whatever the
+// workspace holds. The words of a literal are counted only before an identifier that begins with
+// `0`, or when 16 literals are waiting. The count of words in the final state therefore says
+// nothing.
 pub fn run(body: &[u8], k: usize, ws: &mut [u32], ceiling: usize) -> Ended
     requires { ⌜ (8 * ceiling ≤ length (now ws)) × (ceiling ≤ 65536) × (length (now body) ≤ 65535) × (Text.well-formed (now body) ≡ true) ⌝ }
     ensures { λ r. ⌜ Ending ceiling k (now (body .entry)) (now (ws .entry)) (now (ws .exit)) r ⌝ }
@@ -103,7 +106,7 @@ pub fn run(body: &[u8], k: usize, ws: &mut [u32], ceiling: usize) -> Ended
 
 // Ends
 
-// Whether exactly one entry is left, of a kind that is taken.
+// Whether exactly one entry is left, and its kind is accepted.
 pub fn single(ws: &[u32], st: State, what: Final) -> bool
     requires { ⌜ 3 * st .depth ≤ length (now ws) ⌝ }
     ensures { λ r. ⌜ r ≡ is-some (Calls.single C.kind-of (kinds-of what) (stack-of (now (ws .entry)) (st .depth))) ⌝ }
@@ -115,7 +118,7 @@ pub fn single(ws: &[u32], st: State, what: Final) -> bool
     runs::takes(what, ws[0])
 }
 
-// The stack's entries, three numbers each, the first pushed first.
+// Writes the entries of the stack, three numbers each, in the order in which they were pushed.
 pub fn write_stack(ws: &[u32], st: State, out: &mut [u32]) -> Written
     requires { ⌜ 3 * st .depth ≤ length (now ws) ⌝ }
     ensures { λ r. ⌜ Writing (Calls.entry-numbers (reverse (stack-of (now (ws .entry)) (st .depth)))) (now (out .entry)) (now (out .exit)) r ⌝ }

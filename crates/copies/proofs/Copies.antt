@@ -1,4 +1,4 @@
--- Copies of a tree: so many pushes of its place, and the charge before them.
+-- Copies of a tree: that many pushes of its place, and the charge before them.
 use mathlib.Core.Path.{_≡_, refl, sym, ap, _∙_, subst}
 use mathlib.Core.List.{List, [], _∷_, _++_}
 use mathlib.Core.Option.{some, none}

@@ -57,7 +57,7 @@ lone-made {w} {w₁} {N} {st} {r} x k a body g =
 pub makes-more : {w w₁ : List ℕ} {N : ℕ} {st : State} {r : Placed} {x : (ℕ → String) → Node} → Makes x 2 w w₁ N st r → Makes x 4 w w₁ N st r
 makes-more m = record { below = m .below; rising = m .rising; depth = m .depth; seen = m .seen; budget = m .budget; keeps = m .keeps; some = m .some; lies = m .lies; holds = λ nm sp d h. m .holds nm sp d (less-spare _ (spare (sp .makes + 2) (sp .pushes) (sp .nodes) (sp .keeps)) (omega arith) (omega arith) (omega arith) (omega arith) h) }
 
--- the node of a leaf, by the fixed names
+-- the node of a leaf, given the fixed names
 abbrev pub leaf-of : Leaf → (ℕ → String) → Node
 leaf-of l fixed = R.leaf-node (Enums.leaf fixed l)
 
@@ -110,7 +110,7 @@ leaf-size fixed Leaf.VariadicMarker = omega arith
 leaf-size fixed Leaf.Throws = omega arith
 leaf-size fixed Leaf.Async = omega arith
 
--- what there is to spare behind a node that was made
+-- what there is to spare after a node was made
 pub made-ready : {x : (ℕ → String) → Node} {cost : ℕ} {w w₁ : List ℕ} {N : ℕ} {st : State} {r : Placed} {sp : Spare} (sp₁ : Spare) → sp₁ .makes + cost ≤ sp .makes → sp₁ .pushes ≤ sp .pushes → sp₁ .nodes ≤ sp .nodes → sp₁ .keeps ≤ sp .keeps →
     Makes x cost w w₁ N st r → Ready w N st sp → Ready w₁ N (r .next) sp₁
 made-ready {x} {cost} {w} {w₁} {N} {st} {r} {sp} sp₁ a b c d m q =
@@ -132,7 +132,7 @@ leaf-pushed {w} {w₁} {w₂} {N} {st} {u} {r} l m p = record {
   long = p .keeps .long ∙ m .keeps .long;
 }
 
--- `S`: so many copies
+-- `S`: that many copies
 pub leaf-copied : {w w₁ w₂ : List ℕ} {N : ℕ} {st : State} {p : Placed} (l : Leaf) (times : ℕ) (r : Step) → Makes (leaf-of l) 4 w w₁ N st p → Copied w₁ w₂ N (p .next) times (p .place) r → Operates (λ names. R.copied N times (leaf-of l names)) w w₂ N st r
 leaf-copied {w} {w₁} {w₂} {N} {st} {p} l times (Step.Done u) m c = record {
   runs = λ nm d f h.
@@ -152,7 +152,7 @@ pub enum-made : {w w₁ : List ℕ} {N : ℕ} {st : State} {r : Placed} → Make
 unfolding Enums.nominal-kind
 enum-made m = m
 
--- some machine lies there
+-- w holds some machine
 pub tree-ready : {w : List ℕ} {N : ℕ} {st : State} {sp : Spare} {p : ℕ} → ReadyTree w N st sp p → Ready w N st sp
 tree-ready q = record { names = q .names; machine = q .machine; holds = q .holds }
 
@@ -237,7 +237,7 @@ module _ {w w₁ w₂ w₃ w₄ : List ℕ} {N : ℕ} {st v x y : State} {r : Pl
   }
   optioned {w₅} times (Step.Refused e) c = record { runs = λ nm sp d n f i l. c .runs nm sp _ (R.optional-of n) (behind nm sp d n i l) (there nm n l); beyond = beyond-then option-keeps (c .beyond) }
 
--- behind a wrap and a type
+-- after a wrap and a type
 pub optional-done : {w w₁ w₂ : List ℕ} {N : ℕ} {st u v : State} {p : ℕ} (times : ℕ) (s : Step) → WrapsTo w N st u → Gives (R.pop-if K.is-type) 3 w w₁ N u p v → Optioned w₁ w₂ N v times p s → Operates (λ _. R.optional N times) w w₂ N st s
 unfolding R.optional
 optional-done {w} {w₁} {w₂} {N} {st} {u} {v} {p} times (Step.Done x) a b c = record {

@@ -1,4 +1,4 @@
--- What code says that copies a tree.
+-- What code that copies a tree says.
 use mathlib.Core.Path.{_≡_}
 use mathlib.Core.List.{List, _++_}
 use Prim.Native.Nat.{ℕ, _+_, _*_, _<_}
@@ -18,17 +18,17 @@ use Rattle.nodes.specs.Gives.{spare}
 use Rattle.nodes.specs.declared.Step.{Step}
 use Rattle.nodes.specs.declared.Step.the-variants as Step
 
--- what may be spent on so many pushes of a tree of size z
+-- what may be spent on that many pushes of a tree of size z
 abbrev pub for-pushes : (times z : ℕ) → Spare → Spare
 for-pushes times z sp = spare (sp .makes + 3 * times) (sp .pushes + times) (sp .nodes + z * times) (sp .keeps)
 
--- the place p was pushed so many times
+-- the place p was pushed that many times
 pub record Pushes (w w′ : List ℕ) (N : ℕ) (st u : State) (p times : ℕ) : Type 0 where
   pub state : u ≡ record { budget = st .budget; top = st .top; depth = st .depth + times; seen = st .seen }
   pub holds : (nm : Names) (sp : Spare) (m : Demangler) (x : Node) → Holds nm w N st (for-pushes times (size x) sp) m → p < st .top → Lies (Named nm) x w p → Holds nm w′ N u sp (restack (replicate times x ++ m .stack) m)
   pub keeps : Keeps w w′ N (st .top)
 
--- some machine lies there, and some tree at place p
+-- w holds some machine, and some tree at place p
 pub record ReadyTree (w : List ℕ) (N : ℕ) (st : State) (sp : Spare) (p : ℕ) : Type 0 where
   pub names : Names
   pub machine : Demangler
@@ -36,13 +36,13 @@ pub record ReadyTree (w : List ℕ) (N : ℕ) (st : State) (sp : Spare) (p : ℕ
   pub holds : Holds names w N st sp machine
   pub lies : Lies (Named names) tree w p
 
--- a step f ended with a machine that lies in w with u
+-- a step f ended with a machine that w holds with u
 pub record Went (f : Run Done) (nm : Names) (w : List ℕ) (N : ℕ) (u : State) (sp : Spare) (m : Demangler) : Type 0 where
   pub machine : Demangler
   pub is : f m ≡ ok tt machine
   pub holds : Holds nm w N u sp machine
 
--- so many copies of whatever tree lies at place p
+-- that many copies of any tree at place p
 abbrev pub Copying : (w w′ : List ℕ) (N : ℕ) (st : State) (times p : ℕ) → Step → Type 0
 Copying w w′ N st times p (Step.Done u) = (nm : Names) (sp : Spare) (m : Demangler) (x : Node) → Holds nm w N st sp m → Lies (Named nm) x w p → Went (R.copied N times x) nm w′ N u sp m
 Copying w w′ N st times p (Step.Refused r) = (nm : Names) (sp : Spare) (m : Demangler) (x : Node) → Holds nm w N st sp m → Lies (Named nm) x w p → R.copied N times x m ≡ refused (number r)
@@ -51,7 +51,7 @@ pub record Copied (w w′ : List ℕ) (N : ℕ) (st : State) (times p : ℕ) (r 
   pub runs : Copying w w′ N st times p r
   pub beyond : Beyond 64 N w w′
 
--- a remembered node, and so many copies of it
+-- a remembered node, and that many copies of it
 abbrev pub recall-copies : (N times index : ℕ) → Run Done
 recall-copies N times index = M.recall index >>= λ x. R.copied N times x
 
@@ -63,7 +63,7 @@ pub record Recalled (w w′ : List ℕ) (N : ℕ) (st : State) (times index : �
   pub runs : Recalling w w′ N st times index r
   pub beyond : Beyond 64 N w w′
 
--- `Optional` of a type is remembered, and so many copies of it
+-- `Optional` of a type is remembered, and that many copies of it
 abbrev pub optional-copies : (N times : ℕ) → Node → Run Done
 optional-copies N times x = M.remember (R.optional-of x) >> R.copied N times (R.optional-of x)
 

@@ -21,7 +21,7 @@ use records::Fields;
 use records::Popped;
 use records::State;
 
-// A node of one record that has no child: a number of its own, or none.
+// Makes a node of one record without a child. It has one number, or none.
 fn lone(ws: &mut [u32], n: usize, st: State, kind: u32, a: u32) -> Placed
     requires { ⌜ Inside (now ws) n st 2 0 0 ⌝ }
     ensures { λ r. ⌜ Grew (now (ws .entry)) (now (ws .exit)) n st (r .next) (kind ∷ 1 ∷ 0 ∷ a ∷ 0 ∷ 0 ∷ 0 ∷ 0 ∷ []) × (r .place ≡ st .top) ⌝ }
@@ -40,7 +40,7 @@ fn lone(ws: &mut [u32], n: usize, st: State, kind: u32, a: u32) -> Placed
     }
 }
 
-// The node of a leaf.
+// Makes the node of a leaf.
 pub fn leaf(ws: &mut [u32], n: usize, st: State, l: Leaf) -> Placed
     requires { ⌜ Inside (now ws) n st 4 0 0 ⌝ }
     ensures { λ r. ⌜ Makes (λ fixed. R.leaf-node (Enums.leaf fixed l)) 4 (now (ws .entry)) (now (ws .exit)) n st r ⌝ }
@@ -57,7 +57,7 @@ pub fn leaf(ws: &mut [u32], n: usize, st: State, l: Leaf) -> Placed
     }
 }
 
-// A leaf on top of the stack.
+// Pushes a leaf.
 pub fn push_leaf(ws: &mut [u32], n: usize, st: State, l: Leaf) -> Step
     requires { ⌜ Ready (now ws) n st full-spare ⌝ }
     ensures { λ r. ⌜ Operates (λ fixed. push (R.leaf-node (Enums.leaf fixed l))) (now (ws .entry)) (now (ws .exit)) n st r ⌝ }
@@ -66,7 +66,7 @@ pub fn push_leaf(ws: &mut [u32], n: usize, st: State, l: Leaf) -> Step
     Step::Done(records::push(ws, n, made.next, made.place))
 }
 
-// The place p so many times on top of the stack.
+// Pushes the place p that many times.
 fn push_copies(ws: &mut [u32], n: usize, st: State, times: usize, p: usize) -> State
     requires { ⌜ Inside (now ws) n st (3 * times) times 0 ⌝ }
     requires { ⌜ p < 2 ^ 32 ⌝ }
@@ -81,7 +81,7 @@ fn push_copies(ws: &mut [u32], n: usize, st: State, times: usize, p: usize) -> S
     next
 }
 
-// So many copies of the tree at place p, each charged its size.
+// Pushes that many copies of the tree at place p, each charged its size.
 pub fn copied(ws: &mut [u32], n: usize, st: State, times: usize, p: usize) -> Step
     requires { ⌜ Ready (now ws) n st nothing-spare ⌝ }
     requires { ⌜ (p < st .top) × (1 ≤ at (now ws) p 1) ⌝ }
@@ -103,7 +103,7 @@ pub fn copied(ws: &mut [u32], n: usize, st: State, times: usize, p: usize) -> St
     }
 }
 
-// `S`: so many copies of a leaf.
+// `S`: pushes that many copies of a leaf.
 pub fn standard(ws: &mut [u32], n: usize, st: State, repeat: usize, l: Leaf) -> Step
     requires { ⌜ Ready (now ws) n st full-spare ⌝ }
     ensures { λ r. ⌜ Operates (λ fixed. R.copied n repeat (R.leaf-node (Enums.leaf fixed l))) (now (ws .entry)) (now (ws .exit)) n st r ⌝ }
@@ -112,7 +112,7 @@ pub fn standard(ws: &mut [u32], n: usize, st: State, repeat: usize, l: Leaf) -> 
     copied(ws, n, made.next, repeat, made.place)
 }
 
-// A letter of `A`: so many copies of a remembered node, by its index.
+// A letter of `A`: pushes that many copies of a remembered node, which is given by its index.
 pub fn recall(ws: &mut [u32], n: usize, st: State, times: usize, index: usize) -> Step
     requires { ⌜ Ready (now ws) n st nothing-spare ⌝ }
     ensures { λ r. ⌜ Recalled (now (ws .entry)) (now (ws .exit)) n st times index r ⌝ }
@@ -125,7 +125,7 @@ pub fn recall(ws: &mut [u32], n: usize, st: State, times: usize, index: usize) -
     copied(ws, n, st, times, p)
 }
 
-// `Optional` of the type at place p, which is remembered; so many copies of it.
+// Makes `Optional` of the type at place p, remembers it, and pushes that many copies of it.
 fn optional_of(ws: &mut [u32], n: usize, st: State, repeat: usize, p: usize) -> Step
     requires { ⌜ ReadyTree (now ws) n st (spare 8 0 0 1) p ⌝ }
     requires { ⌜ (p < st .top) × (at (now ws) p 1 ≤ 262144) ⌝ }
@@ -156,7 +156,7 @@ fn optional_of(ws: &mut [u32], n: usize, st: State, repeat: usize, p: usize) -> 
     copied(ws, n, y, repeat, top)
 }
 
-// `Sg`: one wrap more, and so many copies of `Optional` of the type on top.
+// `Sg`: counts one wrap, and pushes that many copies of `Optional` of the type on top.
 pub fn optional(ws: &mut [u32], n: usize, st: State, repeat: usize) -> Step
     requires { ⌜ Ready (now ws) n st full-spare ⌝ }
     ensures { λ r. ⌜ Operates (λ _. R.optional n repeat) (now (ws .entry)) (now (ws .exit)) n st r ⌝ }

@@ -1,4 +1,5 @@
--- A part of a text is copied into a slice eight bytes at a time, and the last eight may lie over some that were copied before. Assumes nothing.
+-- A part of a text is copied into a slice eight bytes at a time, and the last eight may overlap
+-- some that were copied before. Assumes nothing.
 use mathlib.Core.Path.{_≡_, refl, sym, ap, subst, _∙_}
 use mathlib.Core.List.{List, [], _∷_, _++_, append-assoc}
 use Prim.Native.Nat.{ℕ, zero, suc, _+_, _-_, _≤_, _<_}
@@ -9,7 +10,7 @@ use lib.Seq.{length-take-le, drop-cons, take-append-le, take-append-add, take-ta
 use Rattle.copying.specs.Copied.{part, copied}
 
 -- EIGHT BYTES
--- n elements, each read by itself
+-- n elements, each read separately
 abbrev run : ℕ → List ℕ → ℕ → List ℕ
 run zero l i = []
 run (suc n) l i = getD l i 0 ∷ run n l (suc i)
@@ -20,7 +21,7 @@ run-is (suc n) l i h =
     let k : suc i + n ≤ length l = omega arith in
     ap (λ (r : List ℕ). getD l i 0 ∷ r) (run-is n l (suc i) k) ∙ sym (ap (take (suc n)) (drop-cons l i 0 (omega arith)))
 
--- o after n + 1 stores: each is of the byte that was read at its place
+-- o after n + 1 stores: each stores the byte that was read at its place
 abbrev stored : List ℕ → ℕ → List ℕ → ℕ → ℕ → List ℕ
 stored o at l i zero = set o at (getD l i 0)
 stored o at l i (suc n) = set (stored o at l i n) (at + suc n) (getD l (i + suc n) 0)

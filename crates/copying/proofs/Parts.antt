@@ -1,4 +1,4 @@
--- How long a part of a text is. Assumes nothing.
+-- The length of a part of a text. Assumes nothing.
 use mathlib.Core.Path.{_≡_}
 use mathlib.Core.List.{List}
 use Prim.Native.Nat.{ℕ, _-_, _≤_}

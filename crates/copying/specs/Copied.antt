@@ -7,6 +7,6 @@ use lib.ListN.{take, drop}
 abbrev pub part : List ℕ → ℕ → ℕ → List ℕ
 part text from to = take (to - from) (drop from text)
 
--- o, with text[from..to] in the place of as many bytes from `at` on
+-- o, with text[from..to] in place of as many bytes from `at` on
 abbrev pub copied : List ℕ → ℕ → List ℕ → ℕ → ℕ → List ℕ
 copied o at text from to = take at o ++ part text from to ++ drop (at + (to - from)) o

@@ -1,4 +1,4 @@
-// Copying bytes into a lent slice: one by one, or eight at a time.
+// Copies bytes into a lent slice, one by one or eight at a time.
 ghost use mathlib.Core.Path.{_≡_};
 ghost use Prim.Native.Nat.{_+_, _-_, _≤_};
 ghost use mathlib.Core.List.{_++_};
@@ -6,7 +6,7 @@ ghost use lib.ListN.{length, take, drop};
 ghost use lib.Seq.{sets};
 ghost use Rattle.copying.specs.Copied.{copied};
 
-// Copies bytes into out from at on.
+// Copies bytes into out, starting at `at`.
 pub fn copy(out: &mut [u8], at: usize, bytes: &[u8])
     requires { ⌜ at + length (now bytes) ≤ length (now out) ⌝ }
     ensures { λ _. ⌜ now (out .exit) ≡ take at (now (out .entry)) ++ now (bytes .entry) ++ drop (at + length (now (bytes .entry))) (now (out .entry)) ⌝ }
@@ -18,7 +18,8 @@ pub fn copy(out: &mut [u8], at: usize, bytes: &[u8])
     }
 }
 
-// Copies the eight bytes of text from `from` on into out from `at` on. All are read before one is stored, so that the compiler makes one read and one store of them.
+// Copies eight bytes of text, starting at `from`, into out, starting at `at`. All are read before
+// one is stored, so the compiler makes one read and one store of them.
 fn copy_word(out: &mut [u8], at: usize, text: &[u8], from: usize)
     requires { ⌜ (at + 8 ≤ length (now out)) × (from + 8 ≤ length (now text)) ⌝ }
     ensures { λ _. ⌜ now (out .exit) ≡ sets (now (out .entry)) at (take 8 (drop from (now (text .entry)))) ⌝ }
@@ -41,7 +42,8 @@ fn copy_word(out: &mut [u8], at: usize, text: &[u8], from: usize)
     out[at + 7] = h;
 }
 
-// Copies text[from..to], of eight bytes or more, into out from `at` on, eight at a time; the last eight overlap those before them.
+// Copies text[from..to], of eight bytes or more, into out, starting at `at`, eight at a time. The
+// last eight overlap those before them.
 pub fn copy_words(out: &mut [u8], at: usize, text: &[u8], from: usize, to: usize)
     requires { ⌜ (from + 8 ≤ to) × (to ≤ length (now text)) × (at + (to - from) ≤ length (now out)) ⌝ }
     ensures { λ _. ⌜ now (out .exit) ≡ copied (now (out .entry)) at (now (text .entry)) from to ⌝ }

@@ -1,15 +1,16 @@
--- What the arms of a match on a number tell of a list, for the tables of the code: each arm has the list's number at its key. Assumes nothing.
+-- What the arms of a match on a number say about a list, for the tables of the code: each arm has
+-- the number of the list at its key. Assumes nothing.
 use mathlib.Core.Path.{_≡_, sym, ap}
 use mathlib.Core.List.{List, [], _∷_}
 use Prim.Native.Nat.{ℕ, zero, suc, _+_, _≤_}
 use native.Mathlib.Omega.{arith}
 use lib.ListN.{getD, length, List·getD-eq-default}
 
--- in the arm of k: the list's number there
+-- in the arm of k: the number of the list there
 pub here : (xs : List ℕ) {row k : ℕ} → row ≡ k → getD xs k 0 ≡ getD xs row 0
 here xs e = sym (ap (λ (i : ℕ). getD xs i 0) e)
 
--- where no arm was taken: the number is none of the keys, the last key first
+-- if no arm was taken: the number is none of the keys, the last key first
 abbrev pub Passed : ℕ → List ℕ → Type 0
 Passed k [] = Unit {0}
 Passed k (x ∷ xs) = Passed k xs × (k ≡ x → ⊥)

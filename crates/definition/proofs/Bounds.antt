@@ -1,8 +1,9 @@
--- The loops of the definition have a bound on their rounds, since antt's functions go down. None is
--- cut off by it: any two bounds that are large enough give the same (`..-bound`, one law a loop;
--- each says what a round takes), and those that the definition gives are large enough (`..-any`,
--- `rounds-enough`). `turns` has its law in proofs/WholeRuns, the letters of `A` in crate
--- `substitutions` (proofs/ChainLaws `letters-chain`, `letters-are`).
+-- The loops of the definition have a bound on their rounds, because antt's functions must recurse
+-- on a smaller argument. No loop is cut off by it: any two bounds that are large enough give the
+-- same result (`..-bound`, one law for each loop; each says what a round takes), and those that the
+-- definition gives are large enough (`..-any`, `rounds-enough`). The law for `turns` is in
+-- proofs/WholeRuns, the law for the letters of `A` in crate `substitutions` (proofs/ChainLaws
+-- `letters-chain`, `letters-are`).
 use mathlib.Core.Path.{_≡_, refl, sym, ap, subst}
 use mathlib.Core.Bool.{Bool, true, false, _&&_, not}
 use mathlib.Core.List.{List, [], _∷_, _++_}
@@ -63,12 +64,12 @@ NoMore t o = Yields (λ a u. length u ≤ length t) o
 abbrev Less : {A : Type 0} → Text → Out Text A → Type 0
 Less t o = Yields (λ a u. length u < length t) o
 
--- the steps after a first one are the same where it leaves less
+-- the steps after a first one are the same if it leaves less
 then-same : {S A B : Type 0} {P : A → S → Type 0} (o : Out S A) (k l : A → Step S B) → Yields P o → ((a : A) (s : S) → P a s → k a s ≡ l a s) → and-then o k ≡ and-then o l
 then-same (ok a s) k l h f = f a s h
 then-same (refused r) k l h f = refl
 
--- and so are two choices that differ in the one that goes on
+-- and so are two choices that differ in the one that continues
 if-else : {S A : Type 0} (b : Bool) (x y z : Step S A) (s : S) → y s ≡ z s → (if b then x else y) s ≡ (if b then x else z) s
 if-else true x y z s e = refl
 if-else false x y z s e = e
@@ -129,7 +130,7 @@ characters-bound (suc f) (suc g) n (c ∷ t) a b = by (λ u. characters-bound f 
     by next none h = refl
     by next (some u) h = next u (omega (arith, h u refl, a)) (omega (arith, h u refl, b))
 
--- IDENTIFIERS: each round that goes on takes a literal, which has a digit at least
+-- IDENTIFIERS: each round that continues takes a literal, which has at least one digit
 next-if-leaves : (p : ℕ → Bool) (t : Text) → NoMore t (next-if p t)
 unfolding next-if
 next-if-leaves p [] = omega arith
@@ -273,7 +274,7 @@ module _ {A W X : Type 0} where
   abbrev Lower : Machine A W → Out (Machine A W) X → Type 0
   Lower m o = Yields (λ x n. length (n .stack) < length (m .stack)) o
 
--- a node that was looked for is taken where it is there
+-- a node that was tried for is taken if it is there
 module _ {A W : Type 0} where
   abbrev Tried : Machine A W → Option A → Machine A W → Type 0
   Tried m none n = length (n .stack) ≤ length (m .stack)
@@ -320,7 +321,7 @@ module _ {A W : Type 0} (kind : A → ℕ) where
   unfolding M.took
   took-keeps k m = yields-then _ (M.try kind (eqb k) m) (λ o. ret (is-some o)) (try-keeps (eqb k) m) λ o n h. h
 
-  -- what is popped and then looked at, with no more pops
+  -- what is popped and then examined, with no more pops
   popped-lowers : {X : Type 0} (look : A → Step (Machine A W) X) → ((a : A) (n : Machine A W) → NoDeeper n (look a n)) → (m : Machine A W) → Lower m ((M.pop kind >>= look) m)
   unfolding M.pop
   popped-lowers look h m =
@@ -456,7 +457,7 @@ entry-requirements-bound (suc f) (suc g) t m a b =
     then-same (C.try K.is-requirement m) _ _ (try-takes kind-of K.is-requirement m) λ r m₁ c.
     tried-same r m m₁ _ _ _ _ c (λ d. refl) (λ n l. entry-requirements-bound f g _ m₁ (omega (arith, a, l)) (omega (arith, b, l)))
 
--- THE BOUNDS THAT THE DEFINITION GIVES ARE LARGE ENOUGH: with any larger one it says the same
+-- THE BOUNDS THAT THE DEFINITION GIVES ARE LARGE ENOUGH: with any larger one the result is the same
 pub decimal-any : (f n : ℕ) → n < f → decimal n ≡ decimal-before f n []
 unfolding decimal
 decimal-any f n h = digits-bound (suc n) f n [] (omega arith) h
@@ -469,7 +470,7 @@ pub ill-formed-any : (f : ℕ) (t : Text) → length t ≤ f → ill-formed t �
 unfolding ill-formed
 ill-formed-any f t h = characters-bound (length t) f (length t) t (omega arith) h
 
--- of every loop over the stack
+-- for every loop over the stack
 pub rounds-enough : {A W : Type 0} (m : Machine A W) → Yields (λ f n. (n ≡ m) × (length (m .stack) < f)) (M.rounds m)
 unfolding M.rounds
 rounds-enough m = (refl, omega arith)

@@ -59,12 +59,13 @@ module _ (N : ℕ) where
   unfolding turn
   turn-sim t = bind _ _ (spend-sim B.step) λ _ _. bind _ _ (spend-sim (B.charge N 1)) λ _ _. one-sim t
 
-  -- what holds of the machine at a run's end
+  -- what holds for the machine at the end of a run
   abbrev pub InvEnd : End Demangler → Type 0
   InvEnd (ran m) = Inv m
   InvEnd (stopped r left) = Unit {0}
 
-  -- two runs end alike: with the entries of the trees and the same counts, or in the same refusal at the same place
+  -- two runs end alike: with the entries of the trees and the same counts, or with the same refusal
+  -- at the same place
   abbrev pub shapes-end : End Demangler → End Shapes
   shapes-end (ran m) = ran (shapes m)
   shapes-end (stopped r left) = stopped r left
@@ -79,14 +80,14 @@ module _ (N : ℕ) where
   go-on (ok u m) y k left h next = rw (h .0) (next u m (h .2))
   go-on (refused r) y k left h next = rw h (record { end-is = refl; kept = tt })
 
-  -- whatever k and the text are
+  -- for any k and any text
   pub turns-alike : (k : ℕ) (t : Text) (m : Demangler) → Inv m → EndAlike (turns (turn N (R.one N)) k t m) (turns (turn N (C.one N)) k t (shapes m))
   unfolding turns
   turns-alike zero t m i = record { end-is = refl; kept = i }
   turns-alike (suc k) [] m i = record { end-is = refl; kept = i }
   turns-alike (suc k) (c ∷ t) m i = go-on (turn N (R.one N) (c ∷ t) m) (turn N (C.one N) (c ∷ t) (shapes m)) k (length (c ∷ t)) (turn-sim (c ∷ t) .at m i) (λ u m₁ i₁. turns-alike k u m₁ i₁)
 
-  -- from nothing
+  -- from a fresh machine
   abbrev pub read-turns : ℕ → Text → End Demangler
   read-turns k t = turns (turn N (R.one N)) k t (fresh [])
 
@@ -111,7 +112,7 @@ stopped-alike N k s = go (read-turns N k (s .body)) (check-turns N k (s .body)) 
     go (stopped r left) y h = rw (h .end-is) refl
 
 -- WHOLE RUNS
--- the answer of a reading before 12, and the check's
+-- the answer of a reading before 12, and the check's answer
 abbrev Judged : Answer → Answer → Type 0
 Judged r c = (out : ℕ) → WholeAlike out (r .written) (within out r) c
 
@@ -163,9 +164,9 @@ whole-judged N takes s = go (read-turns N all-turns (s .body)) (check-turns N al
     go (stopped r left) y h = rw (h .end-is) (refusal-judged r (s .start + (length (s .body) - left)))
 
 -- THE CALLS
--- the checks before a run pass or refuse alike where each workspace is enough
+-- the checks before a run pass or refuse alike if each workspace is large enough
 module _ (N w w′ : ℕ) (t : Text) (h : T (enough reading-needs N w)) (h′ : T (enough check-needs N w′)) where
-  -- a relation of answers that holds of equal refusals and of what is read
+  -- a relation of answers that holds for equal refusals and for what is read
   admit-alike : (P : Answer → Answer → Type 0) → ((n p : ℕ) → P (refusal n p) (refusal n p)) → (r c : Answer) → P r c → P (admit reading-needs N w t r) (admit check-needs N w′ t c)
   unfolding admit
   admit-alike P q r c z = ceiling (good-ceiling N) (leb (reading-needs * N) w) (leb (check-needs * N) w′) h h′

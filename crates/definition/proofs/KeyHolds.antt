@@ -1,4 +1,4 @@
--- The key, and the wrong readings that it shuts out: each table holds, by computing it.
+-- The key, and the wrong readings that it excludes: each table holds, by computation.
 use lib.Dec.{T}
 use Rattle.definition.specs.Key.{opened, key, shut-out, holds}
 

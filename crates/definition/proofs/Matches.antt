@@ -1,5 +1,5 @@
--- What a `match` takes out of a node, by the node's kind: the functions of specs/Perform that look
--- into a node, as tests of its kind.
+-- What a `match` extracts from a node, by the kind of the node: the functions of specs/Perform that
+-- look into a node, as tests of its kind.
 use mathlib.Core.Path.{_≡_, refl, ap, _∙_}
 use mathlib.Core.Bool.{Bool, true, false, _&&_, not}
 use mathlib.Core.List.{[]}
@@ -15,7 +15,7 @@ use Rattle.definition.specs.Perform as R
 use Rattle.definition.specs.Perform.{Run}
 use Rattle.definition.proofs.SameText.{failed}
 
--- A node by its view: all that the laws need of the 35 kinds
+-- A node by its view: all that the laws need to know about the 35 kinds
 abbrev pub ViewedAs : Node → View → Type 0
 ViewedAs n (named x) = n ≡ Identifier x
 ViewedAs n (listed es) = n ≡ Tuple es
@@ -64,7 +64,7 @@ viewed Async = (tt, tt, tt, tt)
 viewed (LazyWitness w t c) = (tt, tt, tt, tt)
 viewed (AssociatedConformance p q n r) = (tt, tt, tt, tt)
 
--- WHAT IS TAKEN OUT, where there is such a thing; anything else otherwise
+-- WHAT IS EXTRACTED, if there is such a thing; otherwise anything else
 unfoldable pub the-name : Node → Name
 the-name n = given (name-of n) [] (λ x. x)
 
@@ -74,7 +74,7 @@ the-inner n = given (inner-of n) n (λ x. x)
 unfoldable pub the-member : Node → Node
 the-member n = given (member-of n) n (λ x. x)
 
--- what a `match` takes, where a test of the kind holds
+-- what a `match` extracts, if a test of the kind holds
 if-given : {A B : Type 0} (b : Bool) (x : A) (z : B) (f : A → B) → given (if b then some x else none) z f ≡ (if b then f x else z)
 if-given true x z f = refl
 if-given false x z f = refl

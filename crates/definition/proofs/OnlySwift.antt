@@ -1,5 +1,6 @@
--- Among the nodes that may be a context (lines 225 to 227) only a module named Swift prints `Swift`: every other one prints a dot or a space.
--- So the test of line 398 may look at the context's kind and name instead of its text.
+-- Among the nodes that may be a context (lines 225 to 227) only a module named Swift prints
+-- `Swift`: every other one prints a dot or a space. So the test of line 398 may use the kind and
+-- name of the context instead of its text.
 use mathlib.Core.Path.{_≡_, sym, ap, _∙_, subst}
 use mathlib.Core.Bool.{Bool, true, false, _&&_, and-false}
 use mathlib.Core.List.{_++_}
@@ -12,7 +13,7 @@ use Rattle.definition.specs.Print.{dotted, initializer-name, deinitializ
 use Rattle.definition.proofs.SameText.{same→≡, has, has-left}
 use Rattle.definition.proofs.PrintEquations.{has-dotted, accessor-has-dot, standard, standard-of-nominal}
 
--- no dot (46) and no space (32) stands in `Swift`
+-- `Swift` has no dot (46) and no space (32)
 no-dot : (x : Name) → T (has 46 x) → x ≡ bytes "Swift" → ⊥
 unfolding bytes
 no-dot x h e = subst (λ y. T (has 46 y)) e h
@@ -61,7 +62,8 @@ only-swift Async h e = absurd h
 only-swift (LazyWitness w t c) h e = absurd h
 only-swift (AssociatedConformance p q n r) h e = absurd h
 
--- the same as a test: the kind is looked at before the text, which of a module is its name (`print-module` of PrintEquations)
+-- the same as a test: the kind is tested before the text, which for a module is its name
+-- (`print-module` of PrintEquations)
 pub swift-by-kind : (c : Node) → T (K.is-context (kind c)) → same (print c) (bytes "Swift") ≡ (eqb (kind c) K.module-kind && same (print c) (bytes "Swift"))
 unfolding kind
 swift-by-kind c h = by-test (same (print c) (bytes "Swift")) λ s. ap kind (only-swift c h (same→≡ (print c) (bytes "Swift") s))

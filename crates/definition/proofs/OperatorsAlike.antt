@@ -1,4 +1,5 @@
--- Each operator does to the check's machine, by its row of the table, what it does to the machine of trees.
+-- Each operator, by its row of the table, has the same effect on the machine of the check as on the
+-- machine of trees.
 use mathlib.Core.Path.{_≡_, refl, sym, ap, _∙_, subst}
 use mathlib.Core.Bool.{Bool, true, false, _&&_, _||_, not}
 use mathlib.Core.List.{List, [], _∷_, _++_}
@@ -35,7 +36,8 @@ nominal-good N.Enum c x = (tt, tt)
 nominal-good N.Protocol c x = (tt, tt)
 nominal-good N.TypeAlias c x = (tt, tt)
 
--- `function_type`, `conformance`, `assoc_type_name` and `labels` go on with k; the check takes their parts one by one and goes on with l
+-- `function_type`, `conformance`, `assoc_type_name` and `labels` continue with k; the check takes
+-- their parts one by one and continues with l
 module _ {A B : Type 0} {Q : A → Type 0} {g : A → B} where
   function-type-then : (k : Node → Run A) (l : Entry → Entry → Check B) → ((p r : Node) (th asy : Bool) → Sim Q g (k (FunctionType p r th asy)) (l (entry-of p) (entry-of r))) →
       Sim Q g (R.function-type >>= k) (wrap >> (C.took K.throws >>= λ _. C.took K.async >>= λ _. C.side >>= λ p. C.side >>= λ r. l p r))
@@ -103,7 +105,7 @@ module _ (N : ℕ) where
   unfolding R.nominal run-row row C.taking kind size count view
   nominal-sim k = bind _ _ pop-name-sim λ x _. bind _ _ context-sim λ c _. leave-sim _ _ (Nominal k c x) (nominal-good k c x) refl (omega arith) refl
 
-  -- a leaf is good, and its kind and size are the table's
+  -- a leaf is valid, and its kind and size are those of the table
   on-leaf : (l : Op.Leaf) (P : Node → ℕ → ℕ → Type 0) → ((n : Node) → Good n → count n ≡ 0 → P n (kind n) (size n)) → P (R.leaf-node l) (C.leaf-kind l) (C.leaf-size l)
   unfolding R.leaf-node R.standard-nominal R.generic-param C.leaf-kind C.leaf-size kind size count view
   on-leaf (Op.module-named name) P h = h (Module (bytes name)) (tt, tt) refl
@@ -115,7 +117,7 @@ module _ (N : ℕ) where
   on-leaf Op.throws P h = h Throws (tt, tt) refl
   on-leaf Op.async P h = h Async (tt, tt) refl
 
-  -- pushed once, or so many times and charged
+  -- pushed once, or that many times and charged
   leaf-sim : (l : Op.Leaf) (o : Option ℕ) →
       Alike (given o (push (R.leaf-node l)) (λ times. R.copied N times (R.leaf-node l))) (leave N (C.leaf-leaves l o) (taken 0 0 false))
   leaf-sim l o = on-leaf l
@@ -160,7 +162,7 @@ module _ (N : ℕ) where
   unfolding R.archetype R.generic-param run-row row C.taking kind size count view
   archetype-sim p = assoc-type-name-then _ _ λ name. leave-sim _ _ (DependentMember (GenericParam (p .depth) (p .index)) name) (tt, tt) refl refl refl
 
-  -- a requirement on s, of which o nodes are the requirement's own and z were taken
+  -- a requirement on s: o nodes are the requirement's own and z were taken
   requirement-sim : (c : Op.Constraint) (s : Node) (o z : ℕ) → size s ≡ o + z → Alike (R.requirement s c) (C.taking (C.constraint-takes c) (taken z 0 false) (leave N (C.constraint-leaves c o)))
   unfolding R.requirement R.any-object R.standard-nominal C.taking C.constraint-takes C.constraint-leaves C.letter kind size count view
   requirement-sim Op.conforms s o z e = bind _ _ protocol-sim λ p _. leave-sim _ _ (ConformanceRequirement s p) (tt, tt) refl (omega arith) refl

@@ -1,5 +1,5 @@
--- No operator changes the steps, and none but an identifier the words: each function of
--- specs/Perform.antt in a line.
+-- No operator changes the steps, and only an identifier changes the words: one line for each
+-- function of specs/Perform.antt.
 use mathlib.Core.Path.{_≡_, refl, _∙_, subst}
 use mathlib.Core.Bool.{Bool, true, false}
 use mathlib.Core.List.{List, [], _∷_}
@@ -22,7 +22,7 @@ use Rattle.definition.specs.Perform.{Demangler, Run, pop-if, pop, try, t
 use Rattle.definition.specs.Calls.{then-run}
 
 -- STEPS
--- P holds of what a step gives, unless it is refused
+-- P holds for what a step gives, unless it is refused
 abbrev pub Yields : {S A : Type 0} → (A → S → Type 0) → Out S A → Type 0
 Yields P (ok a s) = P a s
 Yields P (refused r) = Unit {0}
@@ -42,7 +42,7 @@ yields-map Q (ok a s) f h = f a s h
 yields-map Q (refused r) f h = tt
 
 -- OPERATORS
--- what no operator but an identifier changes: the words and the steps
+-- what no operator except an identifier changes: the words and the steps
 pub record Kept (m n : Demangler) : Type 0 where
   pub words : n .words ≡ m .words
   pub steps : n .budget .steps ≡ m .budget .steps
@@ -53,8 +53,8 @@ kept-all m = record { words = refl; steps = refl }
 kept-both : {l m n : Demangler} → Kept l m → Kept m n → Kept l n
 kept-both a b = record { words = b .words ∙ a .words; steps = b .steps ∙ a .steps }
 
--- a step leaves them as they are. Such steps are closed under `bind`, so each function of
--- specs/Perform.antt takes a line
+-- A step leaves them unchanged. Such steps are closed under `bind`, so each function of
+-- specs/Perform.antt takes one line
 pub record Keeps {A : Type 0} (s : Run A) : Type 0 where
   pub at : (m : Demangler) → Yields (λ a n. Kept m n) (s m)
 
@@ -79,7 +79,7 @@ keeps-judge : {A : Type 0} (l : Late A) → Keeps (judge l)
 keeps-judge (good a) = record { at = kept-all }
 keeps-judge (bad r) = record { at = λ m. tt }
 
--- what is spent is no step
+-- spending does not change the steps
 keeps-spend : (s : Step Budget Done) → ((b : Budget) → Yields (λ a c. c .steps ≡ b .steps) (s b)) → Keeps (spend s)
 unfolding spend
 keeps-spend s h = record { at = λ m. go m (s (m .budget)) (h (m .budget)) }
@@ -360,7 +360,7 @@ module _ (N : ℕ) where
   keeps-perform Op.associated-type = keeps-associated-type
   keeps-perform Op.associated-conformance = keeps-associated-conformance
 
-  -- every operator but an identifier leaves the words and the steps as they are, where it is not
+  -- every operator except an identifier leaves the words and the steps unchanged, if it is not
   -- refused (lines 733 to 784)
   pub perform-keeps : (op : Op.Operator) (m n : Demangler) → perform N op m ≡ ok tt n → Kept m n
   perform-keeps op m n e = subst (Yields (λ a k. Kept m k)) e (keeps-perform op .at m)

@@ -1,4 +1,5 @@
--- The text of a generic signature is at least three times as long as its parameter count, and a parameter's name has a letter.
+-- The text of a generic signature is at least three times as long as its parameter count, and the
+-- name of a parameter has a letter.
 use mathlib.Core.List.{List, [], _∷_}
 use Prim.Native.Nat.{ℕ, zero, suc, _+_, _*_, _≤_}
 use native.Mathlib.Omega.{arith}

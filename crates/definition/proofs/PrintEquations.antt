@@ -1,5 +1,6 @@
--- The equations of `print` (lines 330 to 507) and `print_params` (lines 557 to 578) as the source writes them, one law for each arm.
--- specs/Print.antt makes all the ways to print a node at once; these laws say that it comes to the same.
+-- The equations of `print` (lines 330 to 507) and `print_params` (lines 557 to 578) as the source
+-- writes them, one law for each arm. specs/Print.antt makes all the ways to print a node at once;
+-- these laws say that the result is the same.
 use mathlib.Core.Path.{_≡_, refl, ap, _∙_, subst⁻¹}
 use mathlib.Core.Bool.{Bool, true, false, _&&_, _||_, not}
 use mathlib.Core.List.{[], _∷_, _++_}
@@ -14,7 +15,7 @@ use Rattle.definition.specs.Print.{join, dotted, generic-param-name, par
 use Rattle.definition.proofs.SameText.{passed, failed, both, neither, same-both, has, has-left, has-right}
 
 -- LISTS OF NODES
--- `printed-elements` goes through a list of nodes and prints each, with its own label beside it
+-- `printed-elements` goes through a list of nodes and prints each, together with its own label
 pub elements-nil : printed-elements nil ≡ []
 unfolding printed-elements
 elements-nil = refl
@@ -32,7 +33,7 @@ pub texts-cons : (l : Option Name) (n : Node) (ns : Nodes) → texts (printed-el
 unfolding print printed-elements texts
 texts-cons l n ns = refl
 
--- WHAT MOST NODES HAVE
+-- THE CASE OF MOST NODES
 -- the kinds of a Nominal
 abbrev pub is-nominal : ℕ → Bool
 is-nominal k = leb K.class k && leb k K.type-alias
@@ -41,18 +42,19 @@ is-nominal k = leb K.class k && leb k K.type-alias
 abbrev pub standard : Node → String → Bool
 standard b name = printing b .standard name
 
--- no text is the same as two texts that differ
+-- no text equals two texts that differ
 two-names : (own : Name) (s t : String) (b : Bool) → T (not (same (bytes s) (bytes t))) → T (same own (bytes s) && b) → T (not (same own (bytes t) && b))
 two-names own s t b d h = not-T (same own (bytes t) && b) λ k.
     T-not (same (bytes s) (bytes t)) d (same-both own (bytes s) (bytes t) (both (same own (bytes s)) b h .0) (both (same own (bytes t)) b k .0))
 
--- a dot (byte 46) stands in "{a}.{b}"
+-- "{a}.{b}" contains a dot (byte 46)
 pub has-dotted : (a b : Name) → T (has 46 (dotted a b))
 unfolding bytes dotted
 has-dotted a b = has-right 46 a (bytes "." ++ b) tt
 
--- The last arms of the source's matches on a part of a node: what holds of every node that the arms before do not take.
--- Also two facts of every node: the text of its accessor has a dot, and it is the standard type of one name at most. All by cases, once, in `others`
+-- The last arms of the source's matches on a part of a node: what holds for every node that the
+-- arms before do not take. Also two facts about every node: the text of its accessor has a dot, and
+-- it is the standard type of at most one name. All by cases, once, in `others`
 record Others (n : Node) : Type 0 where
   in-params : T (not (eqb (kind n) K.tuple || eqb (kind n) K.empty-list)) → (ls : Labels) → print-params n ls ≡ in-parens ls ((none, print n) ∷ [])
   in-function : T (not (eqb (kind n) K.function-type)) → (ls : Labels) → printing n .behind ls ≡ bytes " : " ++ print n
@@ -62,7 +64,7 @@ record Others (n : Node) : Type 0 where
   in-bound : T (not (is-nominal (kind n))) → (s : String) → standard n s ≡ false
   one-standard : (s t : String) → T (not (same (bytes s) (bytes t))) → T (standard n s) → T (not (standard n t))
 
--- a node that `printing` gives to `printed` is taken by no arm but the last
+-- a node that `printing` gives to `printed` is taken only by the last arm
 by-printed : (n : Node) (t : Name) → printing n ≡ printed t → Others n
 unfolding printed print print-params
 by-printed n t e = record {
@@ -268,7 +270,8 @@ print-bound-generic base (cons l a nil) h =
 print-bound-generic base (cons l a (cons m b nil)) h = rw (failed (standard base "Dictionary") h, bound)
 print-bound-generic base (cons l a (cons m b (cons n c ns))) h = refl
 
--- FUNCTIONS, lines 408 to 431: by what `split_generic` (lines 547 to 552) splits off the type, and what is left
+-- FUNCTIONS, lines 408 to 431: by what `split_generic` (lines 547 to 552) splits off the type, and
+-- what is left
 -- no signature, and a function type
 pub print-function : (context : Node) (name : Name) (labels : Labels) (params result : Node) (throws is-async : Bool) →
     print (Function context name labels (FunctionType params result throws is-async)) ≡
@@ -312,7 +315,7 @@ pub print-accessor-other : (k : Name) (variable : Node) → T (not (eqb (kind va
 unfolding print printing printed
 print-accessor-other k variable h = others variable .in-accessor h k
 
--- either way a dot (byte 46) stands in it
+-- in both cases it contains a dot (byte 46)
 pub accessor-has-dot : (k : Name) (variable : Node) → T (has 46 (print (Accessor k variable)))
 unfolding print printing printed
 accessor-has-dot k variable = others variable .accessor-dot k
@@ -413,7 +416,7 @@ pub print-async : print Async ≡ []
 unfolding print printing printed
 print-async = refl
 
--- lines 1543 to 1549: the text that the Rust prints ahead, behind the record's words
+-- lines 1543 to 1549: the text that the Rust prints ahead, after the words of the record
 pub print-lazy-witness : (what : Name) (ty conformance : Node) → print (LazyWitness what ty conformance) ≡ what ++ (print ty ++ (bytes " and conformance " ++ print conformance))
 unfolding print printing printed
 print-lazy-witness what ty conformance = refl
@@ -430,8 +433,8 @@ pub print-qualified-conformance : (protocol qualifier : Node) (name : Name) (req
 unfolding print printing printed printed-elements texts qualified
 print-qualified-conformance protocol qualifier name required = refl
 
--- A TYPE BEHIND A NAME
--- lines 424 to 429 and 458 to 463: no function type
+-- A TYPE AFTER A NAME
+-- lines 424 to 429 and 458 to 463: not a function type
 pub behind-of-other : (n : Node) → T (not (eqb (kind n) K.function-type)) → (ls : Labels) → printing n .behind ls ≡ bytes " : " ++ print n
 behind-of-other n h ls = others n .in-function h ls
 

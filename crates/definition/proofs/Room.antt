@@ -1,5 +1,6 @@
--- How much a run can make for what it is charged: the depth of the stack, the weight of what lies on it, and what is
--- remembered. Proved over the check's table, row by row of a computed test.
+-- How much a run can make for what it is charged: the depth of the stack, the weight of the entries
+-- on it, and what is remembered. Proved over the table of the check, row by row, with a computed
+-- test.
 use mathlib.Core.Path.{_≡_, refl, sym, ap, _∙_, subst}
 use mathlib.Core.Bool.{Bool, true, false, _&&_}
 use mathlib.Core.List.{List, [], _∷_, _++_}
@@ -22,7 +23,7 @@ use Rattle.definition.specs.Check as Ch
 use Rattle.definition.proofs.SameText.{both}
 use Rattle.definition.specs.Shape.{Shapes, Check, kind-of, Take, Leaves, Taken, taken}
 
--- the sizes of entries together
+-- the sum of the sizes of entries
 unfoldable pub weigh : List Entry → ℕ
 weigh [] = 0
 weigh (e ∷ es) = e .size + weigh es
@@ -31,7 +32,7 @@ abbrev pub AllOf : (Entry → Type 0) → List Entry → Type 0
 AllOf P [] = Unit {0}
 AllOf P (e ∷ es) = P e × AllOf P es
 
--- each entry is one node at least
+-- each entry is at least one node
 abbrev pub Sized : List Entry → Type 0
 Sized = AllOf (λ e. 1 ≤ e .size)
 
@@ -39,7 +40,7 @@ Sized = AllOf (λ e. 1 ≤ e .size)
 abbrev pub Bounded : ℕ → Entry → Type 0
 Bounded T e = (1 ≤ e .size) × (e .size ≤ 4 * T)
 
--- Every push is charged, and a charge of 1 makes 4 nodes at the most. j of the charge is not used yet
+-- Every push is charged, and a charge of 1 makes at most 4 nodes. j of the charge is not used yet
 pub record Fits (j : ℕ) (s : Shapes) : Type 0 where
   pub depth : length (s .stack) + j ≤ s .budget .total
   pub weight : weigh (s .stack) + 4 * j ≤ 4 * s .budget .total
@@ -79,7 +80,7 @@ module _ {A : Type 0} {P : Shapes → Type 0} {Q : A → Shapes → Type 0} wher
 before : {A : Type 0} {P P′ : Shapes → Type 0} {Q : A → Shapes → Type 0} {e : Check A} → ((s : Shapes) → P s → P′ s) → Holds P′ e Q → Holds P e Q
 before h k = record { at = λ s p. k .at s (h s p) }
 
--- how many names are among the takes of a row, and how many signatures
+-- the number of names among the takes of a row, and the number of signatures
 abbrev worth : Take → ℕ × ℕ
 worth C.wraps = (0, 0)
 worth (C.a-node want) = (0, 0)
@@ -109,8 +110,8 @@ unfoldable pub signatures : List Take → ℕ
 signatures [] = 0
 signatures (t ∷ ts) = worth t .1 + signatures ts
 
--- WHILE A ROW TAKES. From s₀ on nothing was charged or remembered, and no more lies on the stack; of what was taken (its size in a) n nodes
--- were names, and g are nodes made under signatures
+-- WHILE A ROW TAKES. Since s₀ nothing was charged or remembered, and the stack has not grown. Of
+-- what was taken (its size is in a), n nodes were names, and g are nodes made under signatures
 pub record Taking (s₀ : Shapes) (n g : ℕ) (a : Taken) (s : Shapes) : Type 0 where
   pub charged : s .budget .total ≡ s₀ .budget .total
   pub substitutions : s .substitutions ≡ s₀ .substitutions
@@ -123,7 +124,7 @@ module _ (s₀ : Shapes) where
   weaker : {n g n′ g′ : ℕ} {a a′ : Taken} {s : Shapes} → a′ .size + n′ + g ≤ a .size + n + g′ → Taking s₀ n g a s → Taking s₀ n′ g′ a′ s
   weaker h t = record { charged = t .charged; substitutions = t .substitutions; depth = t .depth; weight = omega (arith, t .weight, h); sized = t .sized }
 
-  -- an entry was taken off that goes into a
+  -- an entry was removed that is added to a
   abbrev With : (n g : ℕ) → Taken → Entry → Shapes → Type 0
   With n g a e s = (1 ≤ e .size) × Taking s₀ n g (C.add e a) s
 
@@ -173,7 +174,7 @@ module _ (s₀ : Shapes) where
     dropped none s t = t
     dropped (some e) s t = weaker (omega arith) (t .1)
 
-    -- a marker that was there is a node less
+    -- a marker that was there is one node less
     took-takes : (k : ℕ) → Holds (Taking s₀ n g a) (C.took k) (λ b s. Taking s₀ (if b then n + 1 else n) g a s)
     unfolding M.took is-some
     took-takes k = bind _ (try-takes (eqb k)) λ o. returns (is-some o) (λ s t. go o s t)
@@ -201,12 +202,12 @@ module _ (s₀ : Shapes) where
         go s t true = record { charged = t .charged; substitutions = t .substitutions; depth = t .depth; weight = t .weight; sized = t .sized }
         go s t false = tt
 
-    -- a name's node goes, and none is made for it
+    -- the node of a name is removed, and none is made for it
     pop-name-takes : Holds (Taking s₀ n g a) C.pop-name (λ x s. Taking s₀ (n + 1) g a s)
     unfolding C.pop-name C.name-in
     pop-name-takes = bind _ pop-takes λ e. if-holds (K.is-identifier (e .kind)) (returns tt (λ s t. weaker (omega (arith, t .0)) (t .1))) (refuses 10)
 
-    -- what stands for an entry that was taken is no larger
+    -- what represents an entry that was taken is not larger
     context-takes : Holds (Taking s₀ n g a) C.context (λ e s. Taking s₀ n g (C.add e a) s)
     unfolding C.context C.context-in
     context-takes = bind _ pop-takes λ e.
@@ -220,7 +221,7 @@ module _ (s₀ : Shapes) where
       (if-holds (eqb (e .kind) K.protocol-list && eqb (e .count) 1) (returns (entry K.protocol (e .size - 1) 0) (λ s t. weaker (omega arith) (t .1)))
       (if-holds (K.is-identifier (e .kind)) (named e) (refuses 10)))
     where
-      -- the identifier's node is the protocol's own
+      -- the node of the identifier is the protocol's own
       named : (e : Entry) → Holds (λ s. With n g a e s) (C.context >>= λ c. ret (entry K.protocol (1 + c .size) 0)) (λ e s. Taking s₀ n g (C.add e a) s)
       named e = record {
         at = λ s t.
@@ -229,7 +230,7 @@ module _ (s₀ : Shapes) where
             h .at s (t .1);
       }
 
-  -- the empty list's node is the tuple's
+  -- the node of the empty list is that of the tuple
   side-takes : {n g : ℕ} {a : Taken} → Holds (Taking s₀ n g a) C.side (λ e s. Taking s₀ n g (C.add e a) s)
   unfolding C.side
   side-takes {n} {g} {a} = bind _ (took-takes K.empty-list) λ b. go b
@@ -244,7 +245,7 @@ module _ (s₀ : Shapes) where
 
   -- LISTS: what is added to a
   module _ {n g : ℕ} where
-    -- one node of the list was taken, and the rest is
+    -- one node of the list was taken, and then the rest is taken
     added : (a : Taken) (e : Entry) (s : Shapes) → With n g a e s → Taking s₀ n g (C.add-counted e a) s
     added a e s t = weaker (omega arith) (t .1)
 
@@ -289,13 +290,13 @@ module _ (s₀ : Shapes) where
         label : (e : Entry) → Holds (Taking s₀ n g a) (C.label-in e) (λ x s. Taking s₀ n g a s)
         label e = if-holds (K.is-identifier (e .kind)) (returns tt (λ s t. t)) (if-holds (eqb (e .kind) K.first-element-marker) (returns tt (λ s t. t)) (refuses 10))
 
-  -- A ROW'S TAKES, and then k
+  -- THE TAKES OF A ROW, and then k
   rounds-take : {n g : ℕ} {a : Taken} → Holds (Taking s₀ n g a) rounds (λ f s. Taking s₀ n g a s)
   unfolding rounds
   rounds-take = record { at = λ s t. t }
 
   module _ (R : Done → Shapes → Type 0) where
-    -- what is shown of k behind all of ts serves behind its first
+    -- what is proved of k after all of ts can be used after its first
     on : {n g n′ g′ : ℕ} {k : Taken → Check Done} → n ≤ n′ → g′ ≤ g → ((a : Taken) → Holds (Taking s₀ n g a) (k a) R) → (a : Taken) → Holds (Taking s₀ n′ g′ a) (k a) R
     on p q h a = before (λ s t. weaker (omega (arith, p, q)) t) (h a)
 
@@ -386,7 +387,7 @@ push-fits : (e : Entry) → Holds (Pushable e) (push e) (λ x s. Fits 0 s)
 unfolding push weigh
 push-fits e = record { at = λ s r. record { depth = omega (arith, r .depth); weight = omega (arith, r .weight); kept = omega (arith, r .kept); sized = (r .one, r .sized); remembered = r .remembered } }
 
--- COPIES pay for themselves
+-- COPIES are paid for by their own charge
 weigh-copies : (k : ℕ) (e : Entry) (es : List Entry) → weigh (replicate k e ++ es) ≡ e .size * k + weigh es
 unfolding weigh
 weigh-copies zero e es = omega (arith, mul-zero (e .size))
@@ -429,7 +430,7 @@ module _ (N : ℕ) where
       go none = push-fits (C.left l a)
       go (some times) = record { at = λ s r. copied-fits N times (C.left l a) 0 (r .one) .at s (unpushed s r) }
 
-  -- a remembered entry, and so many copies of it
+  -- a remembered entry, and that many copies of it
   recall-fits : (j i : ℕ) → Holds (Fits j) (recall i) (λ e s. (1 ≤ e .size) × Fits j s)
   unfolding recall
   recall-fits j i = record { at = λ s f. go s f (s .substitutions) i (f .remembered) }
@@ -448,7 +449,7 @@ module _ (N : ℕ) where
   recalled-fits [] (bad r) j = refuses r
   recalled-fits (c ∷ cs) letter j = bind _ (recall-fits j (c .index)) λ e. bind _ (recalled-copies-fit j (c .times) e) λ _. recalled-fits cs letter j
 
-  -- WHAT IS CHARGED passes the ceiling never
+  -- WHAT IS CHARGED never exceeds the ceiling
   abbrev Charged : Shapes → Type 0
   Charged s = s .budget .total ≤ N
 
@@ -487,7 +488,7 @@ module _ (N : ℕ) where
       go none = record { at = λ s k. k }
       go (some times) = copied-charged times (C.left l a)
 
--- THE TABLE: no row makes more than 4 nodes beside those that it takes
+-- THE TABLE: no row makes more than 4 nodes besides those that it takes
 row-makes-four : C.Row → Bool
 row-makes-four (C.recalls cs letter) = true
 row-makes-four (C.rule ts l) = leb 1 (l .own) && leb (l .own + signatures ts) (4 + names ts)
@@ -627,7 +628,7 @@ module _ (N : ℕ) where
   kept : (P R : Shapes → Type 0) {A : Type 0} (e : Check A) → Holds P e (λ x s. R s) → (s s₁ : Shapes) (a : A) → P s → e s ≡ ok a s₁ → R s₁
   kept P R e h s s₁ a p q = rw q at (h .at s p)
 
-  -- the step and the charge as a turn begins
+  -- the step and the charge at the beginning of a turn
   begun-fits : Holds (Fits 0) (spend B.step >> spend (B.charge N 1)) (λ x s. Fits 1 s)
   begun-fits = bind _ (step-fits 0) λ _. charge-fits 0 1
 
@@ -651,7 +652,7 @@ module _ (N : ℕ) where
   recall-keeps times i s s₁ f q =
       kept (Fits 0) (Fits 0) (recall i >>= λ e. C.copied N times e) (bind _ (recall-fits N 0 i) λ e. recalled-copies-fit N 0 times e) s s₁ tt f q
 
-  -- the charged total stays at the ceiling or below
+  -- the charged total is at most the ceiling
   pub row-total : (op : Op.Operator) (s s₁ : Shapes) → Fits 1 s → s .budget .total ≤ N → C.run-row N (C.row op) s ≡ ok tt s₁ → s₁ .budget .total ≤ N
   row-total op s s₁ f h q = kept (λ s. Fits 1 s × Charged N s) (Charged N) (C.run-row N (C.row op)) (row-charged (C.row op)) s s₁ tt (f, h) q
 

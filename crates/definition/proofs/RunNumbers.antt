@@ -1,5 +1,6 @@
--- A run refuses with a number from 6 to 10 only, in the reading and in the check.
--- Proved of the letters, which both share, and of the check's table; it holds of the reading because the runs go alike.
+-- A run refuses only with a number from 6 to 10, in the reading and in the check. Proved for the
+-- letters, which both share, and for the table of the check; it holds for the reading because the
+-- runs are alike.
 use mathlib.Core.Path.{_≡_, ap, _∙_, subst}
 use mathlib.Core.Bool.{Bool, true, false, _&&_, not}
 use mathlib.Core.List.{List, [], _∷_}
@@ -37,7 +38,7 @@ InRun r = (6 ≤ r) × (r ≤ 10)
 abbrev in-run : ℕ → Bool
 in-run r = leb 6 r && leb r 10
 
--- WHAT A STEP COMES TO: Q holds of its value, or it is refused with such a number
+-- THE RESULT OF A STEP: Q holds for its value, or it is refused with such a number
 module _ {S A : Type 0} (Q : A → Type 0) where
   abbrev Result : Out S A → Type 0
   Result (ok a s) = Q a
@@ -74,7 +75,7 @@ module _ {S A : Type 0} {Q : A → Type 0} where
   given-fine none h c = h
   given-fine (some b) h c = c b
 
--- the same of two outcomes
+-- the same for two outcomes
 module _ {S A : Type 0} (Q : A → Type 0) where
   if-result : (b : Bool) (x y : Out S A) → Result Q x → Result Q y → Result Q (if b then x else y)
   if-result true x y h k = h
@@ -179,7 +180,7 @@ identifier-fine words = record { at = λ t. whole t .at t }
         bind _ (next-if-fine (is "0")) λ a _. bind _ (if-fine a (next-if-fine (is "0")) (ret-fine false tt)) λ b _.
         bind _ (identifier-from-fine (suc (length t)) (a && not b) b words true) λ r _. bind _ (unless-fine 9 tt (not (r .empty))) λ _ _. ret-fine r tt
 
--- THE CHECK'S MACHINE
+-- THE MACHINE OF THE CHECK
 spend-fine : {s : Step Budget Done} → Fine Any s → Fine {S = Shapes} Any (spend s)
 unfolding spend
 spend-fine {s} h = record { at = λ m. go m (s (m .budget)) (h .at (m .budget)) }
@@ -298,7 +299,7 @@ unfolding C.labels-from
 labels-fine zero = ret-fine tt tt
 labels-fine (suc k) = bind _ pop-fine λ e _. bind _ (label-fine e) λ _ _. labels-fine k
 
--- ROWS. A letter that is refused late brings its number into the row, and the row refuses with it
+-- ROWS. A letter that is refused late puts its number into the row, and the row refuses with it
 abbrev late-in-run : {A : Type 0} → Late A → Bool
 late-in-run (good a) = true
 late-in-run (bad r) = in-run r
@@ -378,14 +379,15 @@ module _ (N : ℕ) where
   row-fine (C.recalls cs l) h = recalled-fine cs l h
   row-fine (C.rule ts l) h = taking-fine ts _ (C.leave N l) h (leave-fine l)
 
--- THE OPERATORS' LETTERS. What is known of an operator that was read: a number that its row has is such a number
+-- THE LETTERS OF THE OPERATORS. What is known about an operator that was read: a number in its row
+-- is such a number
 abbrev Carries : Operator → Type 0
 Carries op = T (row-in-run (C.row op))
 
 abbrev CarriesLate : {A : Type 0} → Late A → Type 0
 CarriesLate l = T (late-in-run l)
 
--- Q holds of each entry of a table, and so of the one that is picked
+-- Q holds for each entry of a table, and so for the one that is picked
 module _ {A : Type 0} (Q : A → Type 0) where
   abbrev IfSome : Option A → Type 0
   IfSome none = Unit {0}
@@ -395,7 +397,7 @@ module _ {A : Type 0} (Q : A → Type 0) where
     picked : (b : ℕ) → IfSome (pick b table)
 
 module _ {A : Type 0} {Q : A → Type 0} where
-  -- a table's entries, one by one
+  -- the entries of a table, one by one
   end : Each Q []
   unfolding pick
   end = record { picked = λ b. tt }
@@ -429,7 +431,7 @@ pick-fine b table = or-refuse-fine (pick b table) (go (pick b table))
     go none = tt
     go (some a) = tt
 
--- what an entry of a table comes to; it computes where the entry reads no more of the text
+-- the result of an entry of a table; it computes if the entry reads no more of the text
 abbrev out-in-run : Out Text Operator → Bool
 out-in-run (ok op u) = row-in-run (C.row op)
 out-in-run (refused r) = in-run r
@@ -672,12 +674,12 @@ module _ (N : ℕ) where
       go (ok u m₁) h next = next u m₁
       go (refused r) h next = h
 
--- Whatever k and the text are, a run of the check is refused with a number from 6 to 10
+-- For any k and any text, a run of the check is refused with a number from 6 to 10
 pub check-numbers : (N k : ℕ) (t : Text) (r left : ℕ) → turns (turn N (Ch.one N)) k t (fresh 0) ≡ stopped r left → InRun r
 check-numbers N k t r left e =
     let h : T (leb 6 r) × T (leb r 10) = both (leb 6 r) (leb r 10) (subst (λ (x : End Shapes). EndInRun N x) e (turns-fine N k t (fresh 0))) in
     (leb→le 6 r (h .0), leb→le r 10 (h .1))
 
--- and so is a reading's
+-- and so is a run of the reading
 pub read-numbers : (N k : ℕ) (t : Text) (r left : ℕ) → turns (turn N (R.one N)) k t (fresh []) ≡ stopped r left → InRun r
 read-numbers N k t r left e = check-numbers N k t r left (runs-alike N k t .end-is ∙ ap (shapes-end N) e)

@@ -1,4 +1,4 @@
--- Tests of texts: `same` is equality, and `has` says whether a byte stands in a text.
+-- Tests of texts: `same` is equality, and `has` says whether a text contains a byte.
 use mathlib.Core.Path.{_≡_, refl, sym, ap, ap₂, _∙_, subst}
 use mathlib.Core.Bool.{Bool, true, false, _&&_, _||_, not, or-assoc, or-true}
 use mathlib.Core.List.{[], _∷_, _++_}
@@ -42,11 +42,11 @@ same-refl (a ∷ x) = both-pass (eqb a a) (same x x) (eqb-refl a) (same-refl x)
 pub ≡→same : (x y : Name) → x ≡ y → T (same x y)
 ≡→same x y e = subst (λ z. T (same x z)) e (same-refl x)
 
--- two texts that are the same as a third are the same
+-- two texts that equal a third are equal
 pub same-both : (x y z : Name) → T (same x y) → T (same x z) → T (same y z)
 same-both x y z h k = ≡→same y z (sym (same→≡ x y h) ∙ same→≡ x z k)
 
--- whether the byte b stands in a text
+-- whether a text contains the byte b
 abbrev pub has : ℕ → Name → Bool
 has b [] = false
 has b (x ∷ xs) = eqb b x || has b xs

@@ -1,4 +1,5 @@
--- The check's machine goes as the machine of trees: what that means, and the parts that operators are made of.
+-- The machine of the check simulates the machine of trees: what that means, and the parts that
+-- operators are made of.
 use mathlib.Core.Path.{_≡_, refl, sym, ap, subst}
 use mathlib.Core.Bool.{Bool, true, false, _&&_, not}
 use mathlib.Core.List.{List, [], _∷_, _++_, map, map-append}
@@ -24,7 +25,7 @@ use Rattle.definition.specs.Shape.{Shapes, Check, kind-of, Taken, taken}
 use Rattle.definition.proofs.SameText.{failed}
 use Rattle.definition.proofs.Matches.{not-one, ViewedAs, viewed, the-name, the-member, name-in-is, context-in-is, protocol-in-is, label-in-is, arity-is}
 
--- WHAT HOLDS OF A MACHINE OF TREES
+-- WHAT HOLDS FOR A MACHINE OF TREES
 abbrev pub All : (Node → Type 0) → List Node → Type 0
 All P [] = Unit {0}
 All P (n ∷ ns) = P n × All P ns
@@ -46,7 +47,7 @@ MembersOf (under i) = Unit {0}
 MembersOf (composed ps) = Members ps
 MembersOf other = Unit {0}
 
--- each node on the stack, and each that is remembered, is no type under a signature
+-- no node on the stack, and none that is remembered, is a type under a signature
 abbrev pub Good : Node → Type 0
 Good n = T (not (eqb (kind n) K.generic-type)) × MembersOf (view n)
 
@@ -58,12 +59,13 @@ Filled (w ∷ ws) = T (not (is-empty w)) × Filled ws
 abbrev pub Inv : Demangler → Type 0
 Inv m = All Good (m .stack) × All Good (m .substitutions) × Filled (m .words)
 
--- the check's machine that goes with it
+-- the machine of the check that corresponds to it
 abbrev pub shapes : Demangler → Shapes
 shapes m = machine (m .budget) (map entry-of (m .stack)) (map entry-of (m .substitutions)) (length (m .words))
 
--- STEPS THAT GO ALIKE
--- The check's outcome o is that of the trees: the same refusal, or the value that f makes of it and the machine that goes with it
+-- STEPS THAT ARE ALIKE
+-- The check's outcome o is that of the trees: the same refusal, or f of the value and the
+-- corresponding machine
 module _ {A B : Type 0} (P : A → Type 0) (f : A → B) where
   abbrev pub Sound : Out Demangler A → Out Shapes B → Type 0
   Sound (ok a m) o = (o ≡ ok (f a) (shapes m)) × P a × Inv m
@@ -90,7 +92,7 @@ module _ {A B C D : Type 0} {P : A → Type 0} {f : A → B} {Q : C → Type 0} 
   pub bind : {s : Run A} {e : Check B} (k : A → Run C) (l : B → Check D) → Sim P f s e → ((a : A) → P a → Sim Q g (k a) (l (f a))) → Sim Q g (s >>= k) (e >>= l)
   bind {s} {e} k l h c = record { at = λ m i. bind-out (s m) (e (shapes m)) k l (h .at m i) c }
 
--- steps of the trees in one bracket or in another
+-- steps of the trees, associated in either way
 module _ {A B C D : Type 0} {Q : C → Type 0} {g : C → D} where
   pub assoc : (s : Run A) (k : A → Run B) (l : B → Run C) {e : Check D} → Sim Q g (s >>= λ a. k a >>= l) e → Sim Q g ((s >>= k) >>= l) e
   assoc s k l {e} h = record { at = λ m i. go (s m) (e (shapes m)) (h .at m i) }
@@ -239,7 +241,7 @@ pub context-sim : Sim Good entry-of R.context C.context
 unfolding R.context C.context
 context-sim = bind _ _ pop-sim λ n g. context-in-sim n g
 
--- the parameters of a function type by the entry of its parameter node
+-- the parameters of a function type, by the entry of its parameter node
 pub params-by-entry : (p : Node) → param-count p ≡ (if eqb (kind p) K.tuple then count p else 1)
 unfolding param-count count kind view
 params-by-entry p = go (view p) refl (viewed p)
@@ -265,7 +267,7 @@ protocol-count n = go (view n) refl (viewed n)
     go (composed ps) e v = rw v (λ h. absurd h)
     go other e v = rw (e, count) (λ h. refl)
 
--- the one member of a protocol list is a protocol, one node smaller than the list
+-- the only member of a protocol list is a protocol, one node smaller than the list
 pub record OnlyMember (n : Node) : Type 0 where
   pub entry-is : entry K.protocol (size n - 1) 0 ≡ entry-of (the-member n)
   pub is-protocol : IsProtocol (the-member n)
@@ -314,7 +316,7 @@ pub side-sim : Sim Good entry-of R.function-params C.side
 unfolding R.function-params C.side size count kind view many
 side-sim = bind _ _ (took-sim K.empty-list) λ b _. if-sim b (λ _. ret-sim (Tuple nil) (tt, tt)) (λ _. pop-if-sim K.is-type)
 
--- LISTS: of what is taken the check keeps how many and the sizes together
+-- LISTS: of what is taken the check keeps the number and the sum of the sizes
 abbrev pub tally : Nodes → Taken
 tally es = taken (sizes es) (many es) false
 
@@ -355,7 +357,7 @@ unfolding R.labels-from C.labels-from
 labels-from-sim zero ls = ret-sim ls tt
 labels-from-sim (suc k) ls = bind _ _ pop-sim λ n _. bind _ _ (label-in-sim n) λ l _. labels-from-sim k (l ∷ ls)
 
--- what the trees' step makes of its value is dropped by the check
+-- what the step of the trees makes of its value is dropped by the check
 then-ret : {A C : Type 0} {s : Run A} {e : Check Done} (h : A → C) → Sim {A = A} Any dropped s e → Sim {A = C} Any dropped (s >>= λ a. ret (h a)) e
 then-ret {A} {C} {s} {e} h t = record { at = λ m i. go (s m) (e (shapes m)) (t .at m i) }
   where
@@ -363,7 +365,7 @@ then-ret {A} {C} {s} {e} h t = record { at = λ m i. go (s m) (e (shapes m)) (t 
     go (ok a m) y u = (u .0, tt, u .2)
     go (refused r) y u = u
 
--- behind the look for the empty list: as many labels as the type has parameters
+-- after the test for the empty list: as many labels as the type has parameters
 pub labels-sim : (n : ℕ) (empty : Bool) →
     Sim {A = Labels} {B = Done} Any dropped (if empty then ret (some []) else if eqb n 0 then ret none else (R.labels-from n [] >>= λ ls. ret (some ls))) (if empty then ret tt else C.labels-from n)
 unfolding C.labels-from
@@ -374,11 +376,12 @@ labels-sim n empty = if-sim empty (λ _. ret-sim _ tt) (λ _. go n)
     go (suc n) = rw (eqb·suc-zero n) (then-ret some (labels-from-sim (suc n) []))
 
 -- SIGNATURES
--- a type that is no generic type asks for the labels of its own parameters
+-- a type that is not a generic type requires the labels of its own parameters
 arity-plain : (t : Node) → Good t → R.arity t ≡ R.arity-of t
 arity-plain t g = rw (arity-is t, failed (eqb (kind t) K.generic-type) (g .0)) refl
 
--- the type under a signature that was taken, or by itself: how many labels it asks for, and its size by what the check took
+-- the type under a signature that was taken, or alone: the number of labels that it requires, and
+-- its size by what the check took
 pub record UnderSignature (o : Option Node) (t : Node) (z : ℕ) (ty : Node) : Type 0 where
   pub arity-is : R.arity ty ≡ R.arity-of t
   pub size-is : size ty + z ≡ size t + C.add-signature (entry-if o) (taken z 0 false) .size

@@ -1,4 +1,4 @@
--- A whole run is not cut off by the number of its turns: where none is refused no text is left, and
+-- A whole run is not cut off by the number of its turns: if none is refused no text is left, and
 -- more turns would change nothing.
 use mathlib.Core.Path.{_≡_, refl, sym, ap, _∙_, subst}
 use mathlib.Core.Bool.{Bool, true, false}
@@ -73,13 +73,13 @@ module _ (N : ℕ) where
       yields-map _ (one N t l) (λ u n f. record { before = s .before; after = f ∙ e ∙ s .after }) (one-steps t l)
 
 -- WHAT IS LEFT
--- what is left of the text after k turns, or as the one that is refused begins
+-- what is left of the text after k turns, or at the beginning of the one that is refused
 unfoldable pub left-after : {S : Type 0} → (Text → Step S Text) → ℕ → Text → S → Text
 left-after turn zero t s = t
 left-after turn (suc k) [] s = []
 left-after turn (suc k) (c ∷ t) s = elim (turn (c ∷ t) s) [ ok u s₁ ↦ left-after turn k u s₁ | refused r ↦ c ∷ t ]
 
--- the machine m can make fewer than k turns more
+-- the machine m can make fewer than k more turns
 record Few (k : ℕ) (m : Demangler) : Type 0 where
   now : m .budget .steps ≤ most-steps
   more : most-steps < m .budget .steps + k

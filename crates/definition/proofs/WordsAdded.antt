@@ -1,5 +1,5 @@
--- Words are only added: each part of a reading leaves a list of words that begins with the one that it was given.
--- Every known word has 2 bytes or more, and there are at most 26.
+-- Words are only added: each part of a reading leaves a list of words that begins with the one that
+-- it was given. Every known word has 2 bytes or more, and there are at most 26.
 use mathlib.Core.Path.{_≡_, refl, sym, ap, _∙_, subst, subst⁻¹}
 use mathlib.Core.Bool.{Bool, true, false, _&&_, not}
 use mathlib.Core.List.{List, [], _∷_, _++_, append-nil, append-assoc}
@@ -32,8 +32,8 @@ begins-refl ws = record { more = []; all = sym (append-nil ws) }
 pub begins-trans : {us vs ws : List Name} → Begins us vs → Begins vs ws → Begins us ws
 begins-trans {us} {vs} {ws} a b = record { more = a .more ++ b .more; all = b .all ∙ ap (λ x. x ++ b .more) (a .all) ∙ append-assoc us (a .more) (b .more) }
 
--- An identifier that begins with `0` may have looked for words: those known after it begin vs.
--- Another looked for none (lines 793 to 801)
+-- An identifier that begins with `0` may have used words: those known after it begin vs. Another
+-- identifier used none (lines 793 to 801)
 abbrev pub Looked : Text → (ws vs : List Name) → Type 0
 Looked t ws vs = peek (is "0") t ≡ true → Begins ws vs
 
@@ -42,7 +42,8 @@ found-append [] more i w e = let z : _≡_ {A = ℕ} 0 1 = cc in absurd (omega a
 found-append (v ∷ ws) more zero w e = e
 found-append (v ∷ ws) more (suc i) w e = found-append ws more i w e
 
--- a word found in the older list is found at the same index in the newer one (line 812 finds words so)
+-- a word found in the older list is found at the same index in the newer one (line 812 finds words
+-- in this way)
 pub found-again : {ws vs : List Name} (i : ℕ) (w : Name) → Begins ws vs → getElem? ws i ≡ some w → getElem? vs i ≡ some w
 found-again {ws} {vs} i w b e = rw (b .all) (found-append ws (b .more) i w e)
 
@@ -51,7 +52,7 @@ abbrev pub Long : List Name → Type 0
 Long [] = Unit {0}
 Long (w ∷ ws) = (2 ≤ length w) × Long ws
 
--- the words that are known: each has 2 bytes or more, and there are at most MOST_WORDS (line 603)
+-- the known words: each has 2 bytes or more, and there are at most MOST_WORDS (line 603)
 pub record WellKept (ws : List Name) : Type 0 where
   pub long : Long ws
   pub few : length ws ≤ most-words
@@ -60,7 +61,7 @@ pub record WellKept (ws : List Name) : Type 0 where
 pub well-kept-none : WellKept []
 well-kept-none = record { long = tt; few = omega arith }
 
--- both, of an older and a newer list
+-- both, for an older and a newer list
 record Added (ws vs : List Name) : Type 0 where
   begins : Begins ws vs
   well-kept : WellKept ws → WellKept vs
@@ -76,7 +77,7 @@ long-snoc [] w l h = (h, tt)
 long-snoc (v ∷ ws) w l h = (l .0, long-snoc ws w (l .1) h)
 
 -- WORDS OF A TEXT
--- what holds of both outcomes of a test holds of the outcome
+-- what holds for both outcomes of a test holds for the outcome
 pub by-test : {A : Type 0} (P : A → Type 0) (b : Bool) (x y : A) → P x → P y → P (elim b [ true ↦ x | false ↦ y ])
 by-test P true x y p q = p
 by-test P false x y p q = q
@@ -115,7 +116,7 @@ pub note-words-well-kept : (t : Text) (ws : List Name) → WellKept ws → WellK
 note-words-well-kept t ws = note-words-added t ws .well-kept
 
 -- IDENTIFIERS
--- P holds of what is read
+-- P holds for what is read
 record Reads {A : Type 0} (P : A → Type 0) (s : Lex A) : Type 0 where
   at : (t : Text) → Yields (λ a u. P a) (s t)
 
@@ -151,7 +152,7 @@ identifier-from-added (suc f) subs punycoded ws name =
     goes-on : (slice : Name) {s : Lex Identified} → Reads (λ r. Added (if punycoded then ws else note-words slice ws) (r .words)) s → Reads (λ r. Added ws (r .words)) s
     goes-on slice {s} h = record { at = λ t. yields-map _ (s t) (λ r u a. added-both (known-added punycoded slice ws) a) (h .at t) }
 
--- the loop of lines 803 to 836, where it is not refused
+-- the loop of lines 803 to 836, if it is not refused
 pub identifier-from-begins : (f : ℕ) (subs punycoded : Bool) (ws : List Name) (name : Name) (t u : Text) (r : Identified) →
     identifier-from f subs punycoded ws name t ≡ ok r u → Begins ws (r .words)
 identifier-from-begins f subs punycoded ws name t u r e = (subst (Yields (λ r u. Added ws (r .words))) e (identifier-from-added f subs punycoded ws name .at t)) .begins
@@ -174,12 +175,12 @@ identifier-added : (ws : List Name) (t : Text) → Yields (λ r u. Added ws (r .
 unfolding identifier
 identifier-added ws t = rounds-added (suc (length t)) ws .at t
 
--- `identifier`, lines 790 to 843, where it is not refused
+-- `identifier`, lines 790 to 843, if it is not refused
 pub identifier-begins : (ws : List Name) (t u : Text) (r : Identified) → identifier ws t ≡ ok r u → Begins ws (r .words)
 identifier-begins ws t u r e = (subst (Yields (λ r u. Added ws (r .words))) e (identifier-added ws t)) .begins
 
 -- TURNS
--- a step adds words at most
+-- a step can only add words
 record Adds {A : Type 0} (s : Run A) : Type 0 where
   at : (m : Demangler) → Yields (λ a n. Added (m .words) (n .words)) (s m)
 
@@ -200,7 +201,7 @@ adds-spend s = record { at = λ m. go m (s (m .budget)) }
     go m (ok a b) = added-none (m .words)
     go m (refused r) = tt
 
--- P holds of the machine at a run's end, unless it is refused
+-- P holds for the machine at the end of a run, unless it is refused
 abbrev Ends : (Demangler → Type 0) → End Demangler → Type 0
 Ends P (ran n) = P n
 Ends P (stopped r left) = Unit {0}
@@ -234,7 +235,7 @@ module _ (N : ℕ) where
   unfolding turn
   adds-turn t = adds-bind (adds-spend B.step) λ _. adds-bind (adds-spend (B.charge N 1)) λ _. adds-one t
 
-  -- one turn of `run`, lines 691 to 697, where it is not refused
+  -- one turn of `run`, lines 691 to 697, if it is not refused
   pub turn-begins : (t u : Text) (m n : Demangler) → turn N (one N) t m ≡ ok u n → Begins (m .words) (n .words)
   turn-begins t u m n e = (subst (Yields (λ a k. Added (m .words) (k .words))) e (adds-turn t .at m)) .begins
 
@@ -247,7 +248,7 @@ module _ (N : ℕ) where
   adds-turns (suc k) [] m = added-none (m .words)
   adds-turns (suc k) (c ∷ t) m = ends-then m (length (c ∷ t)) (turn N (one N) (c ∷ t) m) (turns (turn N (one N)) k) (adds-turn (c ∷ t) .at m) (adds-turns k)
 
-  -- k turns of `run` or fewer, lines 689 to 700, where none is refused
+  -- k turns of `run` or fewer, lines 689 to 700, if none is refused
   pub turns-begin : (k : ℕ) (t : Text) (m n : Demangler) → turns (turn N (one N)) k t m ≡ ran n → Begins (m .words) (n .words)
   turns-begin k t m n e = (subst (Ends (λ n. Added (m .words) (n .words))) e (adds-turns k t m)) .begins
 

@@ -1,4 +1,4 @@
--- The check reads an identifier as the reading does, though it knows only how many words there are.
+-- The check reads an identifier as the reading does, although it knows only the number of words.
 use mathlib.Core.Path.{_≡_, refl, sym, ap, _∙_, subst}
 use mathlib.Core.Bool.{Bool, true, false, _&&_, _||_, not}
 use mathlib.Core.List.{List, [], _∷_, _++_}
@@ -13,7 +13,7 @@ use Rattle.definition.specs.Words.{keep, starts, note-words-from, note-w
 use Rattle.definition.specs.Check as C
 use Rattle.definition.proofs.Simulation.{Any, itself, Filled}
 
--- READING ALIKE FROM ONE TEXT: the same refusal, or the value that f makes of it and the same rest
+-- READING ALIKE FROM ONE TEXT: the same refusal, or f of the value and the same rest
 module _ {A B : Type 0} (P : A → Type 0) (f : A → B) where
   abbrev pub Agree : Out Text A → Out Text B → Type 0
   Agree (ok a u) o = (o ≡ ok (f a) u) × P a
@@ -54,7 +54,7 @@ same-reads : {A : Type 0} (s : Lex A) → Reads {A = A} Any itself s s
 same-reads s = record { at = λ t. agree-itself (s t) }
 
 -- WORDS
--- so many words, none of them empty
+-- that many words, none of them empty
 record Counted (n : ℕ) (words : List Name) : Type 0 where
   many : n ≡ length words
   filled : Filled words
@@ -92,7 +92,7 @@ words-counted (x ∷ w) previous (c ∷ t) ws g =
     (subst (λ (n : ℕ). Counted (C.count-words-from 1 c t n) (note-words-from (c ∷ []) c t (keep (x ∷ w) ws))) (sym (kept .many)) (words-counted (c ∷ []) c t (keep (x ∷ w) ws) (kept .filled)))
     (subst (λ (n : ℕ). Counted (C.count-words-from (suc n) c t (length ws)) (note-words-from (x ∷ (w ++ (c ∷ []))) c t ws)) (snoc-length w c) (words-counted (x ∷ (w ++ (c ∷ []))) c t ws g)))
 
--- WORDS BY LETTER
+-- WORD LETTERS
 known : (ws : List Name) (i : ℕ) → is-some (getElem? ws i) ≡ ltb i (length ws)
 unfolding is-some
 known [] i = sym (leb·suc-zero i)
@@ -108,7 +108,7 @@ word-filled [] i g = tt
 word-filled (w ∷ ws) zero g = g .0
 word-filled (w ∷ ws) (suc i) g = word-filled ws i (g .1)
 
--- a name with something behind it that is not empty
+-- a name followed by something that is not empty
 not-empty : (a b : Name) → T (not (is-empty b)) → is-empty (a ++ b) ≡ false
 unfolding is-empty
 not-empty [] [] h = absurd h
@@ -124,7 +124,7 @@ empty-append (x ∷ a) b = refl
 abbrev spelled-as : Spelled → C.Spelled
 spelled-as s = C.spelled (is-empty (s .name)) (s .more)
 
--- a word by its number: the check looks at how many there are
+-- a word by its number: the check tests how many there are
 look : (ws : List Name) → Filled ws → (i : ℕ) (x : Name → Out Text Spelled) (y : Out Text C.Spelled) → ((w : Name) → T (not (is-empty w)) → Agree Any spelled-as (x w) y) →
     Agree Any spelled-as (elim (getElem? ws i) [ none ↦ refused 9 | some w ↦ x w ]) (elim (ltb i (length ws)) [ false ↦ refused 9 | true ↦ y ])
 unfolding is-some

@@ -1,4 +1,5 @@
--- No operator of the check but an identifier looks at the words: with other words it comes to the same, with those other words.
+-- Only an identifier uses the words of the check: with other words every other operator has the
+-- same result, with those other words.
 use mathlib.Core.Path.{_≡_, refl, sym, ap, _∙_}
 use mathlib.Core.Bool.{Bool, true, false, _&&_}
 use mathlib.Core.List.{List, [], _∷_}
@@ -26,12 +27,13 @@ use Rattle.definition.specs.Check.{one}
 abbrev pub rewords : ℕ → Shapes → Shapes
 rewords w m = machine (m .budget) (m .stack) (m .substitutions) w
 
--- what a step comes to, with other words
+-- the result of a step, with other words
 abbrev pub reworded : {A : Type 0} → ℕ → Out Shapes A → Out Shapes A
 reworded w (ok a m) = ok a (rewords w m)
 reworded w (refused r) = refused r
 
--- a step comes to the same whatever the words are. Such steps are closed under `bind`, so each function of specs/Shape.antt takes a line
+-- A step has the same result whatever the words are. Such steps are closed under `bind`, so each
+-- function of specs/Shape.antt takes one line
 record Independent {A : Type 0} (s : Check A) : Type 0 where
   at : (w : ℕ) (m : Shapes) → s (rewords w m) ≡ reworded w (s m)
 
@@ -249,11 +251,12 @@ module _ (N : ℕ) where
     unfolding turn
     independent-turn = bind (independent-spend B.step) λ _. bind (independent-spend (B.charge N 1)) λ _. independent-one
 
-    -- a turn where no digit stands comes to the same with other words, and those are the words behind it
+    -- a turn where the byte is not a digit has the same result with other words, and those are the
+    -- words after it
     pub turn-apart : (w : ℕ) (m : Shapes) → turn N (one N) (c ∷ t) (rewords w m) ≡ reworded w (turn N (one N) (c ∷ t) m)
     turn-apart w m = independent-turn .at w m
 
-    -- so it leaves the words as they are, where it is not refused
+    -- so it leaves the words unchanged, if it is not refused
     pub turn-keeps-words : (m n : Shapes) (u : Text) → turn N (one N) (c ∷ t) m ≡ ok u n → n .words ≡ m .words
     turn-keeps-words m n u q = go (sym q ∙ (turn-apart (m .words) m ∙ ap (reworded (m .words)) q))
       where

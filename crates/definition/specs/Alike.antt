@@ -11,7 +11,7 @@ use Rattle.definition.specs.Calls.{Answer, refusal, good-ceiling, readin
 use Rattle.definition.specs.Reading.{read, read-type, demangle, demangle-type, demangle-stopped, demangle-type-stopped}
 use Rattle.definition.specs.Check.{shape, shape-type, shape-stopped, shape-type-stopped}
 
--- Enough workspace; where 1 refuses N, any is enough
+-- enough workspace; if 1 refuses N, any is enough
 abbrev pub enough : (need N workspace : ℕ) → Bool
 enough need N workspace = not (good-ceiling N) || leb (need * N) workspace
 
@@ -23,24 +23,26 @@ with-text text c = record {
 }
 
 -- The answers of a whole reading and a whole check of one text, which the definition reads as
--- `text`: one answer where the check refuses; where it accepts, the reading answers with the text
--- and the check's number, place and counts, or with 12, exactly where the text is longer than the
--- output
+-- `text`. If the check refuses, both answers are the same. If it accepts, the reading answers with
+-- the text and the check's number, place and counts, or with 12, exactly where the text is longer
+-- than the output
 pub record WholeAlike (out : ℕ) (text : List ℕ) (reading check : Answer) : Type 0 where
   pub refused : T (not (eqb (check .values .number) 0)) → reading ≡ check
   pub accepted : T (eqb (check .values .number) 0) → length text ≤ out → reading ≡ with-text text check
   pub too-long : T (eqb (check .values .number) 0) → out < length text → reading ≡ refusal 12 0
 
--- All calls on one text, with one ceiling and one k, whatever their workspaces and output slices hold
+-- All calls on one text, with one ceiling and one k, whatever their workspaces and output slices
+-- hold
 pub record JudgedAlike (t : Text) (N k reading-workspace check-workspace out : ℕ) : Type 0 where
   pub symbol : WholeAlike out (read t N reading-workspace .written) (demangle t N reading-workspace out) (shape t N check-workspace)
   pub type : WholeAlike out (read-type t N reading-workspace .written) (demangle-type t N reading-workspace out) (shape-type t N check-workspace)
-  -- stopped: one answer, and the same entries, which `Reading.stopped-after` takes from the trees on the stack
+  -- stopped: one answer, and the same entries, which `Reading.stopped-after` takes from the trees
+  -- on the stack
   pub symbol-stopped : demangle-stopped t N k reading-workspace out ≡ shape-stopped t N k check-workspace out
   pub type-stopped : demangle-type-stopped t N k reading-workspace out ≡ shape-type-stopped t N k check-workspace out
 
--- Demand 3: every text is judged alike, with every ceiling, k, output length and workspaces that
--- are enough
+-- Demand 3: every text is judged alike, with every ceiling, k and output length, and with
+-- workspaces that are large enough
 abbrev pub Demand3 : Type 0
 Demand3 =
     (t : Text) (N k reading-workspace check-workspace out : ℕ) → T (enough reading-needs N reading-workspace) → T (enough check-needs N check-workspace) →

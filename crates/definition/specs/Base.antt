@@ -1,5 +1,6 @@
--- The words of the definition: bytes, tables of letters, and steps that can be refused.
--- Names are those of swift_demangle.rs, with `-` for `_`; "lines" in a comment are lines of that file, "01" is document 01.
+-- The terms of the definition: bytes, tables of letters, and steps that can be refused. Names are
+-- those of swift_demangle.rs, with `-` for `_`; "lines" in a comment are lines of that file, "01"
+-- is document 01.
 use mathlib.Core.Bool.{Bool, true, false, _&&_, _||_, not}
 use mathlib.Core.List.{List, [], _∷_, _++_}
 use mathlib.Core.Option.{Option, some, none}
@@ -43,7 +44,7 @@ same [] (y ∷ ys) = false
 same (x ∷ xs) [] = false
 same (x ∷ xs) (y ∷ ys) = eqb x y && same xs ys
 
--- the decimal digits of n, in front of what follows; f bounds their number and is never reached
+-- The decimal digits of n, followed by the given text. f bounds their number and is never reached
 -- (proofs/Bounds `digits-bound`, `decimal-any`)
 unfoldable pub decimal-before : ℕ → ℕ → Name → Name
 decimal-before zero n tail = tail
@@ -76,8 +77,8 @@ pick b [] = none
 pick b (e ∷ es) = elim (is (e .0) b) [ true ↦ some (e .1) | false ↦ pick b es ]
 
 -- STEPS
--- What a step over a state S comes to: a value and the next state; or the number (01, "How each operation refuses") of the first check
--- at which the Rust gives None
+-- The result of a step over a state S: a value and the next state; or the number (01, "How each
+-- operation refuses") of the first check at which the Rust gives None
 pub data Out (S A : Type 0) : Type 0 where
   ok : A → S → Out S A
   refused : ℕ → Out S A
@@ -85,7 +86,7 @@ pub data Out (S A : Type 0) : Type 0 where
 abbrev pub Step : Type 0 → Type 0 → Type 0
 Step S A = S → Out S A
 
--- a step that is made for the state alone
+-- a step that only changes the state
 abbrev pub Done : Type 0
 Done = Unit {0}
 
@@ -120,7 +121,7 @@ abbrev pub unless : {S : Type 0} → ℕ → Bool → Step S Done
 unless r true s = ok tt s
 unless r false s = refused r
 
--- a letter that the Rust reads after it has taken nodes, and judges then
+-- a letter that the Rust reads after it has taken nodes, and judges only then
 pub data Late (A : Type 0) : Type 0 where
   good : A → Late A
   bad : ℕ → Late A

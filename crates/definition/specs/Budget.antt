@@ -30,7 +30,7 @@ fresh = budget 0 0 0
 unfoldable pub step : Step Budget Done
 step b = if ltb (b .steps) most-steps then ok tt (budget (suc (b .steps)) (b .total) (b .wraps)) else refused 6
 
--- lines 666 to 669, with the ceiling N in place of MOST_NODES. Past 2^64 is past N
+-- lines 666 to 669, with the ceiling N in place of MOST_NODES. A sum past 2^64 is past N
 unfoldable pub charge : (N n : ℕ) → Step Budget Done
 charge N n b = if leb (b .total + n) N then ok tt (budget (b .steps) (b .total + n) (b .wraps)) else refused 7
 

@@ -1,4 +1,5 @@
--- 01, "How each operation refuses": what a call answers, the checks before a run, and what a run's end comes to. Reading and check share them.
+-- 01, "How each operation refuses": the answer of a call, the checks before a run, and the result
+-- at the end of a run. Reading and check share them.
 use mathlib.Core.Bool.{Bool, true, false, _&&_, _||_, not}
 use mathlib.Core.List.{List, [], _∷_, _++_}
 use mathlib.Core.Option.{Option, some, none}
@@ -15,7 +16,7 @@ use Rattle.definition.specs.Budget as B
 use Rattle.definition.specs.Budget.{Budget, most-steps, most-nodes}
 use Rattle.definition.specs.Machine.{Machine, spend}
 
--- WHAT A CALL ANSWERS
+-- THE ANSWER OF A CALL
 -- number 0: accepted; place, counts and length are 0 where the paper gives none
 pub record Values : Type 0 where
   pub number : ℕ
@@ -25,7 +26,8 @@ pub record Values : Type 0 where
   pub wraps : ℕ
   pub length : ℕ
 
--- with what is written to the front of the output slice: a text's bytes or a stack's numbers
+-- with what is written to the front of the output slice: the bytes of a text or the numbers of a
+-- stack
 pub record Answer : Type 0 where
   pub values : Values
   pub written : List ℕ
@@ -46,7 +48,8 @@ within out a = if leb (length (a .written)) out then a else refusal 12 0
 unfoldable pub good-ceiling : ℕ → Bool
 good-ceiling N = ltb 0 N && leb N most-nodes
 
--- 1 to 4 in order, for a call that needs that many numbers of workspace a node; then what is read
+-- 1 to 4 in order, for a call that needs `need` numbers of workspace for each node; then what is
+-- read
 unfoldable pub admit : (need N workspace : ℕ) → Text → Answer → Answer
 admit need N workspace t rest = elim (good-ceiling N) [
   | false ↦ refusal 1 0
@@ -74,12 +77,13 @@ abbrev pub whole-text : Text → Symbol
 whole-text t = record { start = 0; body = t; suffix = [] }
 
 -- RUNS
--- What a run over a machine comes to: the machine at its end, or a refusal's number with how much of the body was left as its operator began
+-- The result of a run over a machine: the machine at its end, or the number of a refusal with the
+-- length of the rest of the body at the beginning of the refused operator
 pub data End (S : Type 0) : Type 0 where
   ran : S → End S
   stopped : (number left : ℕ) → End S
 
--- what an operator reads from the text, then what it does with it; what is left of the text
+-- what an operator reads from the text, then what it does with it; the rest of the text
 unfoldable pub then-run : {S A : Type 0} → Out Text A → (A → Step S Done) → Step S Text
 then-run (ok a u) f = f a >> ret u
 then-run (refused r) f = refuse r
@@ -97,18 +101,18 @@ turns turn zero t s = ran s
 turns turn (suc k) [] s = ran s
 turns turn (suc k) (c ∷ t) s = elim (turn (c ∷ t) s) [ ok u s₁ ↦ turns turn k u s₁ | refused r ↦ stopped r (length (c ∷ t)) ]
 
--- the answer at a run's end; 6 to 10 stand at the operator's first byte
+-- the answer at the end of a run; the place of 6 to 10 is the first byte of the operator
 unfoldable pub ended : {S : Type 0} → Symbol → End S → (S → Answer) → Answer
 ended s (ran m) read = read m
 ended s (stopped r left) read = refusal r (s .start + (length (s .body) - left))
 
--- a whole run: more turns than there are steps, so that the last would be refused
--- (proofs/WholeRuns: where none is refused, no text is left)
+-- A whole run: more turns than there are steps, so that the last would be refused
+-- (proofs/WholeRuns: if none is refused, no text is left)
 abbrev pub all-turns : ℕ
 all-turns = suc most-steps
 
--- THE FINAL CHECK. 11, at the body's end: not exactly one node left, or one of a kind that is not taken
--- (a symbol takes all but a bare identifier, line 682; a type takes types, line 52)
+-- THE FINAL CHECK. 11, at the end of the body: not exactly one node is left, or its kind is not
+-- accepted (a symbol accepts all but a bare identifier, line 682; a type accepts types, line 52)
 unfoldable pub symbol-kind : ℕ → Bool
 symbol-kind k = not (K.is-identifier k)
 
@@ -122,7 +126,7 @@ unfoldable pub finished : {A W : Type 0} → (A → ℕ) → (ℕ → Bool) → 
 finished kind takes text s m =
     given (single kind takes (m .stack)) (refusal 11 (s .start + length (s .body))) (λ n. accepted (m .budget) (text n))
 
--- A STOPPED RUN writes three numbers an entry
+-- A STOPPED RUN writes three numbers for each entry
 unfoldable pub entry-numbers : List Entry → List ℕ
 entry-numbers [] = []
 entry-numbers (e ∷ es) = e .kind ∷ e .size ∷ e .count ∷ entry-numbers es

@@ -18,11 +18,12 @@ use Rattle.definition.specs.Shape.{Check, kind-of, row, run-row}
 use Rattle.definition.specs.Calls.{Answer, accepted, within, admit, check-needs, symbol, whole-text, then-run, turn, turns, ended, all-turns, symbol-kind, finished, entry-numbers}
 
 -- WORDS, AS A COUNT (01, "Shape entries")
--- a word of so many bytes has ended
+-- a word of that many bytes has ended
 unfoldable pub keep-count : ℕ → ℕ → ℕ
 keep-count n words = if leb 2 n && ltb words most-words then suc words else words
 
--- how many bytes the word that is open has (0: none), the byte before, the text that is left, the words known
+-- the number of bytes of the open word (0: none), the byte before, the rest of the text, the number
+-- of known words
 unfoldable pub count-words-from : ℕ → ℕ → Text → ℕ → ℕ
 count-words-from zero previous [] words = words
 count-words-from (suc n) previous [] words = keep-count (suc n) words
@@ -38,7 +39,7 @@ count-words-from (suc n) previous (c ∷ t) words = elim (is "_" c) [
   ]
 ]
 
--- Of an identifier so far: whether it is empty, and whether words by letter may follow
+-- an identifier so far: whether it is empty, and whether word letters may follow
 pub record Spelled : Type 0 where
   pub empty : Bool
   pub more : Bool
@@ -106,7 +107,8 @@ module _ (N : ℕ) where
   unfoldable pub stopped-after : ℕ → Symbol → Answer
   stopped-after k s = ended s (turns (turn N one) k (s .body) (fresh 0)) (λ m. accepted (m .budget) (entry-numbers (reverse (m .stack))))
 
--- THE CALLS: a text, the ceiling, how many turns where stopped, how many numbers of workspace, how long the output slice
+-- THE CALLS: a text, the ceiling, the number of turns if stopped, the size of the workspace in
+-- numbers, the length of the output slice
 unfoldable pub shape : Text → (N workspace : ℕ) → Answer
 shape t N workspace = let r : Answer = symbol t (whole N symbol-kind) in admit check-needs N workspace t r
 

@@ -1,5 +1,5 @@
--- What each case of the enums of src/lib.rt means. A reader must believe `number` and `values`,
--- document 01's number and values of an answer; what follows them (from `nominal-kind` on) is FOR
+-- The meaning of each case of the enums of src/lib.rt. A reader must believe `number` and `values`,
+-- document 01's number and values of an answer. What follows them (from `nominal-kind` on) is FOR
 -- CODE ONLY: which operator of specs/Operators a case of the code's enums means, so that the
 -- contracts of the crates can name it.
 use mathlib.Core.Bool.{Bool, true, false}
@@ -81,7 +81,7 @@ constraint SameType = Op.same-type
 constraint (Layout true) = Op.layout (good tt)
 constraint (Layout false) = Op.layout (bad 9)
 
--- fixed n is the fixed name of that number
+-- fixed n is the fixed name with number n
 module _ (fixed : ℕ → String) where
   unfoldable pub leaf : Leaf → Op.Leaf
   leaf (Leaf.the-variants.Module n) = Op.module-named (fixed n)

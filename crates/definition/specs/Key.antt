@@ -40,7 +40,7 @@ key =
 -- the four wrong readings that document 01 names
 unfoldable pub shut-out : List (Call × Gives)
 shut-out =
-    -- `A0C` is one copy, and not refused
+    -- `A0C` is one copy, and is not refused
     (symbol "$s4main3FooV1aA0Cvp", counted "main.Foo.a : main.Foo" 6 8 0) ∷
     (type "SiSg_A0At", counted "(Swift.Int?, Swift.Int?)" 5 17 2) ∷
     -- parameter 26 is `AB`, not `BA`

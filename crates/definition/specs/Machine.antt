@@ -1,4 +1,5 @@
--- The stack machine (lines 581 to 674), over what lies on its stack: trees in the reading, entries in the check.
+-- The stack machine (lines 581 to 674), over the items on its stack: trees in the reading, entries
+-- in the check.
 use mathlib.Core.Bool.{Bool, true}
 use mathlib.Core.List.{List, [], _∷_, _++_}
 use mathlib.Core.Option.{Option, some, none}
@@ -10,7 +11,8 @@ use Rattle.definition.specs.Base.{if_then_else_, given, is-some, Out, ok
 use Rattle.definition.specs.Budget as B
 use Rattle.definition.specs.Budget.{Budget}
 
--- The stack has its top first, what is remembered its oldest first. The words are those themselves, or how many they are
+-- The stack has its top first, the remembered items have the oldest first. The words are the words
+-- themselves, or their number
 pub record Machine (A W : Type 0) : Type 0 where
   pub budget : Budget
   pub stack : List A
@@ -29,7 +31,7 @@ module _ {A W : Type 0} where
   abbrev pub fresh : W → Machine A W
   fresh w = machine B.fresh [] [] w
 
-  -- what is done to the budget
+  -- the effect on the budget
   abbrev pub spent : Out Budget Done → Machine A W → Out (Machine A W) Done
   spent (ok x b) m = ok x (machine b (m .stack) (m .substitutions) (m .words))
   spent (refused r) m = refused r
@@ -46,7 +48,7 @@ module _ {A W : Type 0} where
   unfoldable pub remember : A → Step (Machine A W) Done
   remember n m = ok tt (machine (m .budget) (m .stack) (m .substitutions ++ (n ∷ [])) (m .words))
 
-  -- a remembered node by its index; there being none is 9 (line 906)
+  -- a remembered node by its index; 9 if there is none (line 906)
   unfoldable pub recall : ℕ → Step (Machine A W) A
   recall i m = given (getElem? (m .substitutions) i) (refused 9) (λ n. ok n m)
 
@@ -56,18 +58,18 @@ module _ {A W : Type 0} where
   unfoldable pub push-copies : ℕ → A → Step (Machine A W) Done
   push-copies k n m = ok tt (restack (replicate k n ++ m .stack) m)
 
-  -- the bound of a loop over the stack, which is never reached: each round takes a node
+  -- The bound of a loop over the stack. It is never reached, because each round takes a node
   -- (proofs/Bounds, a law for each loop, and `rounds-enough`)
   unfoldable pub rounds : Step (Machine A W) ℕ
   rounds m = ok (suc (length (m .stack))) m
 
--- what goes by the kind of the top
+-- what depends on the kind of the top
 module _ {A W : Type 0} (kind : A → ℕ) where
   unfoldable pub pop-from : (ℕ → Bool) → List A → Step (Machine A W) A
   pop-from want [] m = refused 10
   pop-from want (n ∷ s) m = if want (kind n) then ok n (restack s m) else refused 10
 
-  -- `pop_if(..)?`: the top, which must be of a kind that is wanted
+  -- `pop_if(..)?`: the top, whose kind must be wanted
   unfoldable pub pop-if : (ℕ → Bool) → Step (Machine A W) A
   pop-if want m = pop-from want (m .stack) m
 
@@ -83,7 +85,7 @@ module _ {A W : Type 0} (kind : A → ℕ) where
   unfoldable pub try : (ℕ → Bool) → Step (Machine A W) (Option A)
   try want m = try-from want (m .stack) m
 
-  -- `pop_if(..).is_some()`: whether there was one of that kind on top, which is taken off
+  -- `pop_if(..).is_some()`: whether one of that kind was on top; it is removed
   unfoldable pub took : ℕ → Step (Machine A W) Bool
   took k = try (eqb k) >>= λ o. ret (is-some o)
 

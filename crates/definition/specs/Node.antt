@@ -11,13 +11,14 @@ use Rattle.definition.specs.Kind as K
 pub data NominalKind : Type 0 where
   Class Struct Enum Protocol TypeAlias : NominalKind
 
--- a function's labels: none where it has none of its own; an entry is none for the marker of a parameter with no label
+-- the labels of a function: none if it has none of its own; an entry is none for the marker of a
+-- parameter with no label
 abbrev pub Labels : Type 0
 Labels = Option (List (Option Name))
 
--- lines 83 to 200. The last two are forms of their own for records about an identifier whose text
--- the Rust prints ahead (`Wl` and `WL`, lines 1531 to 1549; `Tn`, lines 1643 to 1662): they keep
--- what is printed, with no qualifier or one. Their kind is `Record`
+-- Lines 83 to 200. The last two are separate forms for records about an identifier whose text the
+-- Rust prints ahead (`Wl` and `WL`, lines 1531 to 1549; `Tn`, lines 1643 to 1662). They keep what
+-- is printed, with no qualifier or one. Their kind is `Record`
 mutual
   pub data Node : Type 0 where
     Identifier : Name → Node
@@ -50,7 +51,7 @@ mutual
     LazyWitness : (what : Name) → (ty conformance : Node) → Node
     AssociatedConformance : (protocol : Node) → (qualifier : Nodes) → Name → (required : Node) → Node
 
-  -- nodes in the source's order, each with the label that a tuple may give it
+  -- nodes in the order of the source, each with the label that a tuple may give it
   pub data Nodes : Type 0 where
     nil : Nodes
     cons : Option Name → Node → Nodes → Nodes
@@ -138,13 +139,13 @@ unfoldable mutual
   sizes nil = 0
   sizes (cons l n ns) = size n + sizes ns
 
--- how many
+-- their number
 unfoldable pub many : Nodes → ℕ
 many nil = 0
 many (cons l n ns) = suc (many ns)
 
--- What the operators look for inside a node: an identifier's name, a tuple's elements, a function type's parameters, the type under a
--- signature, the members of a protocol list
+-- What the operators look for inside a node: the name of an identifier, the elements of a tuple,
+-- the parameters of a function type, the type under a signature, the members of a protocol list
 pub data View : Type 0 where
   named : Name → View
   listed : Nodes → View
@@ -188,15 +189,17 @@ view Async = other
 view (LazyWitness w t c) = other
 view (AssociatedConformance p q n r) = other
 
--- the parameters of a function type whose parameter node is p: those of a tuple, else 1 (lines 1311 to 1314)
+-- the parameters of a function type whose parameter node is p: those of a tuple, otherwise 1 (lines
+-- 1311 to 1314)
 unfoldable pub param-count : Node → ℕ
 param-count p = elim (view p) [ listed es ↦ many es | named _ ↦ 1 | with-params _ ↦ 1 | under _ ↦ 1 | composed _ ↦ 1 | other ↦ 1 ]
 
--- 01, "Shape entries": the elements of a tuple, the parameters of a function type, the members of a protocol list, else 0
+-- 01, "Shape entries": the elements of a tuple, the parameters of a function type, the members of a
+-- protocol list, otherwise 0
 unfoldable pub count : Node → ℕ
 count n = elim (view n) [ listed es ↦ many es | with-params p ↦ param-count p | composed ps ↦ many ps | named _ ↦ 0 | under _ ↦ 0 | other ↦ 0 ]
 
--- What a `match` of the source takes out of a node: an identifier's name, the type under a
+-- What a `match` of the source extracts from a node: the name of an identifier, the type under a
 -- signature, the member of a protocol list of one (line 1142)
 unfoldable pub name-of : Node → Option Name
 name-of n = elim (view n) [ named x ↦ some x | listed _ ↦ none | with-params _ ↦ none | under _ ↦ none | composed _ ↦ none | other ↦ none ]
@@ -212,7 +215,7 @@ only-of (cons l n (cons l₂ n₂ ns)) = none
 unfoldable pub member-of : Node → Option Node
 member-of n = elim (view n) [ composed ps ↦ only-of ps | named _ ↦ none | listed _ ↦ none | with-params _ ↦ none | under _ ↦ none | other ↦ none ]
 
--- the entry that a stopped reading writes of a tree
+-- the entry that a stopped reading writes for a tree
 abbrev pub entry-of : Node → K.Entry
 entry-of n = K.entry (kind n) (size n) (count n)
 

@@ -1,5 +1,6 @@
--- The operators' letters and operands: what `operator` (lines 726 to 786) and the functions below it do to the text alone.
--- Reading and check share them. A letter that the Rust judges after it has taken nodes is `Late`.
+-- The letters and operands of the operators: the effect of `operator` (lines 726 to 786) and the
+-- functions below it on the text only. Reading and check share them. A letter that the Rust judges
+-- after it has taken nodes is `Late`.
 use mathlib.Core.Bool.{Bool, true, false, _&&_}
 use mathlib.Core.List.{List, [], _∷_, _++_}
 use mathlib.Core.Option.{Option, some, none}
@@ -15,25 +16,26 @@ use Rattle.definition.specs.Node.{NominalKind, Class, Struct, Enum, Prot
 use Rattle.definition.specs.Budget.{most-steps, most-wraps}
 
 -- WHAT AN OPERATOR IS
--- a node that is pushed as it stands; `standard-nominal` is under the module Swift
+-- a node that is pushed as it is; `standard-nominal` is under the module Swift
 pub data Leaf : Type 0 where
   module-named : String → Leaf
   standard-nominal : NominalKind → String → Leaf
   generic-param : Param → Leaf
   empty-list first-element-marker variadic-marker throws async : Leaf
 
--- what a requirement constrains: a generic parameter, a type on the stack, a member type of a parameter
+-- what a requirement constrains: a generic parameter, a type on the stack, a member type of a
+-- parameter
 pub data Subject : Type 0 where
   of-param : Param → Subject
   of-stack : Subject
   of-member : Param → Subject
 
--- the kind of constraint; of a layout only the class one, `C`, reads
+-- the kind of constraint; of the layouts only the class layout, `C`, is valid
 pub data Constraint : Type 0 where
   conforms superclass same-type : Constraint
   layout : Late Done → Constraint
 
--- what a record is about
+-- the subject of a record
 pub data About : Type 0 where
   a-type an-entity a-context a-protocol a-conformance anything : About
 
@@ -46,11 +48,11 @@ abbrev pub substitution : ℕ → ℕ → Substitution
 substitution t i = record { times = t; index = i }
 
 pub data Operator : Type 0 where
-  -- what is pushed in order, and how the letters ended
+  -- what is pushed, in order, and how the letters ended
   substitutions : List Substitution → Late Done → Operator
   nominal : NominalKind → Operator
   leaf : Leaf → Operator
-  -- `S`: that many of it
+  -- `S`: the number of copies, and the leaf
   standard : ℕ → Leaf → Operator
   optional : ℕ → Operator
   tuple function-type protocol-list bound-generic in-out metatype : Operator
@@ -58,7 +60,7 @@ pub data Operator : Type 0 where
   requirement : Subject → Constraint → Operator
   generic-signature : ℕ → Operator
   plain-function : Operator
-  -- the accessor's kind, none for the variable itself
+  -- the kind of the accessor, none for the variable itself
   variable : Late (Option String) → Operator
   initializer deinitializer : Bool → Operator
   variable-initializer static : Operator
@@ -70,25 +72,25 @@ pub data Operator : Type 0 where
   protocol-witness associated-type associated-conformance : Operator
 
 -- THE LETTERS
--- the next letter, in a table
+-- the next letter, looked up in a table
 unfoldable pub choose : {A : Type 0} → List (Char × A) → Lex A
 choose table = do
   c ← next
   or-refuse 9 (pick c table)
 
--- the same where the table says how to read on
+-- the same, where the table says how to continue reading
 unfoldable pub choose-then : {A : Type 0} → List (Char × Lex A) → Lex A
 choose-then table = choose table >>= λ m. m
 
--- the next letter, looked at now and judged later
+-- the next letter, which is read now and judged later
 unfoldable pub choose-late : {A : Type 0} → List (Char × A) → Lex (Late A)
 choose-late table [] = ok (bad 9) []
 choose-late table (c ∷ t) = ok (given (pick c table) (bad 9) good) t
 
--- lines 880 to 900, with line 907 for how many copies: what is copied so far; f bounds the letters
--- and is reached only where no text is left, since each takes a byte (crate `substitutions`,
--- proofs/ChainLaws `letters-are`). After `A` lower case goes on and a capital ends; `A_` is 26,
--- `An_` is n + 27
+-- Lines 880 to 900, with line 907 for the number of copies. The list is what is copied so far. f
+-- bounds the letters and is reached only if no text is left, because each takes a byte (`letters-are`
+-- in crates/operator_substitutions/proofs/ChainLaws). After `A` a lower case letter continues and a
+-- capital ends; `A_` is 26, `An_` is n + 27
 unfoldable pub substitutions-from : ℕ → Option ℕ → List Substitution → Lex Operator
 substitutions-from zero repeat done t = ok (substitutions done (bad 9)) t
 substitutions-from (suc f) repeat done [] = ok (substitutions done (bad 9)) []
@@ -167,7 +169,7 @@ standard-types =
 unfoldable pub standard-modules : List (Char × String)
 standard-modules = ("o", "__C") ∷ ("C", "__C_Synthesized") ∷ []
 
--- `S`, a count or none, and a letter (lines 943 to 970)
+-- `S`, an optional count, and a letter (lines 943 to 970)
 unfoldable pub standard-letter : ℕ → ℕ → Lex Operator
 standard-letter repeat c = elim (is "g" c) [
   | true ↦ ret (optional repeat)
@@ -184,7 +186,7 @@ standard-letters t = (do
   c ← next
   standard-letter repeat c) t
 
--- `X` (lines 1038 to 1059); the byte after `XM` is any
+-- `X` (lines 1038 to 1059); the byte after `XM` is arbitrary
 unfoldable pub special-types : List (Char × Lex Operator)
 special-types =
     ("E", ret function-type) ∷
@@ -244,12 +246,12 @@ requirements =
     ("T", refuse 9) ∷
     ("M", refuse 9) ∷ []
 
--- any other letter stays for the parameter's index (line 1206)
+-- any other letter remains to be read for the index of the parameter (line 1206)
 unfoldable pub requirement-letters : Lex Operator
 requirement-letters [] = refused 9
 requirement-letters (c ∷ t) = elim (pick c requirements) [ some m ↦ m t | none ↦ requiring on-param conforms (c ∷ t) ]
 
--- the counts after `r` (lines 1275 to 1288): at most as many more, the last one read
+-- the counts after `r` (lines 1275 to 1288): at most that many more, and the last one read
 unfoldable pub counts : ℕ → ℕ → Lex ℕ
 counts zero params = do
   closed ← next-if (is "l")
@@ -392,7 +394,7 @@ thunks =
     ("X", ret (record-of an-entity (bytes "dynamically replaceable key for "))) ∷
     ("m", ret (record-of an-entity (bytes "merged "))) ∷ []
 
--- lines 727 to 785, the digits aside
+-- lines 727 to 785, except the digits
 unfoldable pub operators : List (Char × Lex Operator)
 operators =
     ("A", substitutions-letters) ∷

@@ -1,4 +1,5 @@
--- What each operator does to the machine of trees: `operator` (lines 726 to 786) and the functions below it, without their letters.
+-- The effect of each operator on the machine of trees: `operator` (lines 726 to 786) and the
+-- functions below it, without their letters.
 use mathlib.Core.Bool.{Bool, true, false, _&&_, _||_, not}
 use mathlib.Core.List.{List, [], _∷_, _++_}
 use mathlib.Core.Option.{Option, some, none}
@@ -57,7 +58,7 @@ leaf-node Op.throws = Throws
 leaf-node Op.async = Async
 
 -- WHAT SEVERAL OPERATORS TAKE
--- the name of an identifier, as lines 917 to 920 take it
+-- the name of an identifier, as taken in lines 917 to 920
 unfoldable pub name-in : Node → Run Name
 name-in n = given (name-of n) (refuse 10) ret
 
@@ -128,21 +129,22 @@ labels-from (suc n) ls = do
   l ← label-in top
   labels-from n (l ∷ ls)
 
--- how many a type asks for: the parameters of a function type, under a signature too
+-- the number of labels that a type requires: the parameters of a function type, also under a
+-- signature
 unfoldable pub arity-of : Node → ℕ
 arity-of ty = if eqb (kind ty) K.function-type then count ty else 0
 
 unfoldable pub arity : Node → ℕ
 arity ty = given (inner-of ty) (arity-of ty) arity-of
 
--- the empty list is looked for first
+-- the empty list is tried first
 unfoldable pub labels : Node → Run Labels
 labels ty = do
   empty ← took K.empty-list
   if empty then ret (some []) else
       if eqb (arity ty) 0 then ret none else (labels-from (arity ty) [] >>= λ ls. ret (some ls))
 
--- LISTS. Each is taken from its last node on, and each node put in front
+-- LISTS. Each is taken from its last node on, and each node is put in front
 unfoldable pub label-of : Option Node → Option Name
 label-of label = given label none name-of
 
@@ -164,7 +166,7 @@ members (suc f) ps = do
   p ← protocol
   if first then ret (cons none p ps) else members f (cons none p ps)
 
--- lines 1161 to 1175: types down to the empty list, past the markers between levels
+-- lines 1161 to 1175: types down to the empty list, skipping the markers between levels
 unfoldable pub arguments : ℕ → Nodes → Run Nodes
 arguments zero args = refuse 10
 arguments (suc f) args = do
@@ -288,7 +290,7 @@ initializer allocating = do
   c ← context
   push (Initializer allocating c ls ty)
 
--- what a record is about
+-- the subject of a record
 unfoldable pub about : Op.About → Run Node
 about Op.a-type = pop-if K.is-type
 about Op.an-entity = pop-if K.is-entity

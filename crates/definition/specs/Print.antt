@@ -1,6 +1,7 @@
--- 01, "Printed text": the text of a node (lines 330 to 578).
--- antt's functions go down a tree by its parts only, so `print`, `print_params` and the two ways to print a type behind a name are the fields
--- of one record that is made bottom up. proofs/PrintEquations.antt has them as the source writes them.
+-- 01, "Printed text": the text of a node (lines 330 to 578). antt's functions can only recurse on
+-- the parts of a tree, so `print`, `print_params` and the two ways to print a type after a name are
+-- the fields of one record that is built bottom up. proofs/PrintEquations.antt states them as the
+-- source writes them.
 use mathlib.Core.Bool.{Bool, true, false, _&&_}
 use mathlib.Core.List.{List, [], _∷_, _++_}
 use mathlib.Core.Option.{Option, some, none}
@@ -23,8 +24,9 @@ join sep (x ∷ y ∷ ys) = x ++ (bytes sep ++ join sep (y ∷ ys))
 unfoldable pub dotted : Name → Name → Name
 dotted a b = a ++ (bytes "." ++ b)
 
--- GENERIC PARAMETERS (lines 527 to 543): least letter first, then the depth if above 0; f bounds
--- the letters and is never reached (proofs/Bounds `letters-bound`, `param-name-any`)
+-- GENERIC PARAMETERS (lines 527 to 543): the least significant letter first, then the depth if
+-- above 0; f bounds the letters and is never reached (proofs/Bounds `letters-bound`,
+-- `param-name-any`)
 unfoldable pub param-letters : ℕ → ℕ → Name
 param-letters zero i = []
 param-letters (suc f) i = (65 + i % 26) ∷ elim (eqb (i / 26) 0) [ true ↦ [] | false ↦ param-letters f (i / 26) ]
@@ -52,7 +54,8 @@ unfoldable pub labelled : Option Name → Name → Name
 labelled none t = t
 labelled (some l) t = l ++ (bytes ": " ++ t)
 
--- lines 567 to 570: the function's label where it has one, `_` where that is the marker for none, and else the element's own
+-- lines 567 to 570: the label of the function if it has one, `_` where that is the marker for none,
+-- and otherwise the element's own label
 unfoldable pub label-at : Labels → ℕ → Option Name → Option Name
 label-at none i own = own
 label-at (some ls) i own = elim (getElem? ls i) [ none ↦ own | some l ↦ elim l [ none ↦ some (bytes "_") | some n ↦ some n ] ]
@@ -87,8 +90,8 @@ unfoldable pub composition : List Name → Name
 composition [] = bytes "Any"
 composition (p ∷ ps) = join " & " (p ∷ ps)
 
--- the path of an associated type: the protocol that says where it is from, if there is one, and its
--- name (lines 1654 to 1657)
+-- the path of an associated type: the protocol that it comes from, if there is one, and its name
+-- (lines 1654 to 1657)
 unfoldable pub qualified : List Name → Name → Name
 qualified [] n = n
 qualified (q ∷ qs) n = dotted q n
@@ -99,17 +102,17 @@ pub record Printed : Type 0 where
   pub text : Name
   -- `print_params`, with the labels given
   pub params : Labels → Name
-  -- what follows the name of a function or initializer whose type it is, once a signature was split
-  -- off (lines 415 to 430 and 449 to 464)
+  -- what follows the name of a function or initializer that has this type, after a signature was
+  -- split off (lines 415 to 430 and 449 to 464)
   pub behind : Labels → Name
   -- the same, with a signature split off first (`split_generic`, lines 545 to 552)
   pub signed : Labels → Name
-  -- as the variable of an accessor of a kind (lines 435 to 440)
+  -- printed as the variable of an accessor of a kind (lines 435 to 440)
   pub accessed : Name → Name
   -- whether it is the standard type of a name, as the base of a generic type (lines 395 to 400)
   pub standard : String → Bool
 
--- what most nodes have
+-- the case of most nodes
 unfoldable pub printed : Name → Printed
 printed t = record {
   text = t;

@@ -1,4 +1,4 @@
--- Demand 2's definition: the four reading calls.
+-- The definition of demand 2: the four reading calls.
 use mathlib.Core.Bool.{Bool, true, false}
 use mathlib.Core.List.{List, [], _∷_, _++_, map, reverse}
 use Prim.Native.Nat.{ℕ}
@@ -31,7 +31,7 @@ module _ (N : ℕ) where
     | false ↦ then-run (operator c t) (λ op. perform N op)
   ]
 
-  -- a whole run over a body; the suffix stands behind the text
+  -- a whole run over a body; the suffix follows the text
   unfoldable pub whole : (ℕ → Bool) → Symbol → Answer
   whole takes s = ended s (turns (turn N one) all-turns (s .body) (fresh [])) (finished kind takes (λ n. print n ++ suffix-text (s .suffix)) s)
 
@@ -52,7 +52,8 @@ read-stopped t N k workspace = let r : Answer = symbol t (stopped-after N k) in 
 unfoldable pub read-type-stopped : Text → (N k workspace : ℕ) → Answer
 read-type-stopped t N k workspace = let r : Answer = stopped-after N k (whole-text t) in admit reading-needs N workspace t r
 
--- THE CALLS: a text, the ceiling, how many turns where stopped, how many numbers of workspace, how long the output slice
+-- THE CALLS: a text, the ceiling, the number of turns if stopped, the size of the workspace in
+-- numbers, the length of the output slice
 -- lines 27 to 35
 unfoldable pub demangle : Text → (N workspace out : ℕ) → Answer
 demangle t N workspace out = within out (read t N workspace)

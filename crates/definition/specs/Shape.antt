@@ -1,6 +1,6 @@
--- 01, "Shape entries": the check's rules, a table of what each operator takes and leaves, and the
--- one interpreter that runs its rows. Nothing of the reading's trees is used here; of specs/Node
--- only the numbers of the five nominal kinds (`nominal-kind`).
+-- 01, "Shape entries": the rules of the check, a table of what each operator takes and leaves, and
+-- the only interpreter, which runs its rows. The trees of the reading are not used here; of
+-- specs/Node only the numbers of the five nominal kinds are used (`nominal-kind`).
 use mathlib.Core.Bool.{Bool, true, false, _&&_}
 use mathlib.Core.List.{List, [], _∷_, _++_}
 use mathlib.Core.Option.{Option, some, none}
@@ -19,28 +19,32 @@ use Rattle.definition.specs.Machine as M
 use Rattle.definition.specs.Machine.{Machine, spend, wrap, remember, recall, push, push-copies, rounds}
 
 -- THE TABLE
--- What an operator can take. Where nothing else is said, the size of what is taken counts in the size of what is left
+-- What an operator can take. Unless stated otherwise, the size of what is taken counts in the size
+-- of what is left
 pub data Take : Type 0 where
   -- a wrap is counted
   wraps : Take
   -- a node of such a kind
   a-node : (ℕ → Bool) → Take
-  -- an identifier, whose name goes into the node that is left: it has no size there
+  -- an identifier, whose name becomes part of the node that is left: it has no size there
   a-name : Take
-  -- a context; an identifier stands for a module
+  -- a context; an identifier represents a module
   a-context : Take
-  -- a protocol; a list of one for its member, an identifier and a context for the protocol that they name
+  -- a protocol; a list of one represents its member, an identifier and a context represent the
+  -- protocol that they name
   a-protocol : Take
-  -- a marker, or a protocol that says where a name is from, if it is on top; no size
+  -- a marker, or a protocol that says where a name comes from, if it is on top; no size
   marker : ℕ → Take
   qualifier : Take
-  -- a side of a function type, of which the parameters are counted; the empty list stands for a tuple of none
+  -- one side of a function type, whose parameters are counted; the empty list represents the empty
+  -- tuple
   params result : Take
   -- a type; the parameters of a function type are counted
   a-labelled-type : Take
   -- as many labels as parameters were counted, or the empty list; no size
   labels : Take
-  -- a generic signature if it is on top, which puts the type into one node more; and the wrap of that node
+  -- a generic signature if it is on top, which puts the type into one more node; and the wrap of
+  -- that node
   a-signature under-signature : Take
   -- lists
   elements members arguments requirements : Take
@@ -49,8 +53,9 @@ pub data Take : Type 0 where
   -- the text of what was taken is printed ahead: its size no longer counts
   printed-ahead : Take
 
--- What an operator leaves: a node of a kind, with as many nodes of its own; whether it has the count of what was taken, whether it is
--- remembered, and how many copies of it are charged and pushed (none: it is pushed once and not charged)
+-- What an operator leaves: a node of a kind, with that many nodes of its own; whether it has the
+-- count of what was taken, whether it is remembered, and how many copies of it are charged and
+-- pushed (none: it is pushed once and not charged)
 pub record Leaves : Type 0 where
   pub kind : ℕ
   pub own : ℕ
@@ -106,7 +111,7 @@ leaf-size Op.variadic-marker = 1
 leaf-size Op.throws = 1
 leaf-size Op.async = 1
 
--- what a requirement takes for its subject, and the nodes that it makes for it
+-- what a requirement takes as its subject, and the nodes that it makes for it
 unfoldable pub subject-takes : Op.Subject → List Take
 subject-takes (Op.of-param p) = []
 subject-takes Op.of-stack = a-type ∷ []
@@ -127,7 +132,7 @@ constraint-takes Op.superclass = a-type ∷ []
 constraint-takes Op.same-type = a-type ∷ []
 constraint-takes (Op.layout l) = letter l
 
--- the requirement itself; a layout's is under the protocol AnyObject
+-- the requirement itself; that of a layout is under the protocol AnyObject
 unfoldable pub constraint-leaves : Op.Constraint → (subject : ℕ) → Leaves
 constraint-leaves Op.conforms n = plain K.conformance-requirement (1 + n)
 constraint-leaves Op.superclass n = plain K.conformance-requirement (1 + n)
@@ -140,7 +145,7 @@ variable-leaves (good none) = plain K.variable 1
 variable-leaves (good (some accessor)) = plain K.accessor 2
 variable-leaves (bad r) = plain K.variable 1
 
--- a conformance is one node more
+-- a conformance is one more node
 unfoldable pub about-row : Op.About → Row
 about-row Op.a-type = rule (a-type ∷ []) (plain K.record-kind 1)
 about-row Op.an-entity = rule (an-entity ∷ []) (plain K.record-kind 1)
@@ -149,11 +154,11 @@ about-row Op.a-protocol = rule (a-protocol ∷ []) (plain K.record-kind 1)
 about-row Op.a-conformance = rule a-conformance (plain K.record-kind 2)
 about-row Op.anything = rule (a-node (λ k. true) ∷ []) (plain K.record-kind 1)
 
--- a leaf, pushed once or so many times
+-- a leaf, pushed once or that many times
 abbrev pub leaf-leaves : Op.Leaf → Option ℕ → Leaves
 leaf-leaves l times = record { kind = leaf-kind l; own = leaf-size l; counted = false; remembered = false; copies = times }
 
--- the type under Optional, remembered, and so many copies of it
+-- the type under Optional, remembered, and that many copies of it
 abbrev pub optional-leaves : ℕ → Leaves
 optional-leaves times = record { kind = K.bound-generic; own = 3; counted = false; remembered = true; copies = some times }
 
@@ -186,7 +191,7 @@ row Op.associated-type = rule (a-protocol ∷ a-name ∷ []) (plain K.record-kin
 row Op.associated-conformance = rule (a-protocol ∷ marker K.first-element-marker ∷ qualifier ∷ a-name ∷ a-type ∷ printed-ahead ∷ []) (plain K.record-kind 2)
 
 -- THE INTERPRETER
--- the word table shrinks to a count
+-- the word table becomes a count
 abbrev pub Shapes : Type 0
 Shapes = Machine Entry ℕ
 
@@ -205,7 +210,7 @@ try = M.try kind-of
 abbrev pub took : ℕ → Check Bool
 took = M.took kind-of
 
--- what was taken so far: the sizes added up, what was counted, whether there was a signature
+-- what was taken so far: the sum of the sizes, what was counted, whether there was a signature
 pub record Taken : Type 0 where
   pub size : ℕ
   pub count : ℕ
@@ -214,18 +219,18 @@ pub record Taken : Type 0 where
 abbrev pub taken : ℕ → ℕ → Bool → Taken
 taken s c g = record { size = s; count = c; signed = g }
 
--- one entry more, also in a list, where it is counted
+-- one more entry; also in a list, where it is counted
 abbrev pub add : Entry → Taken → Taken
 add e a = taken (e .size + a .size) (a .count) (a .signed)
 
 abbrev pub add-counted : Entry → Taken → Taken
 add-counted e a = taken (e .size + a .size) (suc (a .count)) (a .signed)
 
--- the parameters of a side: those of a tuple, else 1
+-- the parameters of a side: those of a tuple, otherwise 1
 unfoldable pub add-params : Entry → Taken → Taken
 add-params e a = taken (e .size + a .size) (if eqb (e .kind) K.tuple then e .count else 1) (a .signed)
 
--- the parameters of a type: those of a function type, else 0
+-- the parameters of a type: those of a function type, otherwise 0
 unfoldable pub add-labelled : Entry → Taken → Taken
 add-labelled e a = taken (e .size + a .size) (if eqb (e .kind) K.function-type then e .count else 0) (a .signed)
 
@@ -259,7 +264,7 @@ side = do
   empty ← took K.empty-list
   if empty then ret (entry K.tuple 1 0) else pop-if K.is-type
 
--- lists: the bound f is `rounds`, and never reached (proofs/Bounds)
+-- lists: the bound f is `rounds`, and is never reached (proofs/Bounds)
 unfoldable pub elements-from : ℕ → Taken → Check Taken
 elements-from zero a = refuse 10
 elements-from (suc f) a = do
@@ -300,7 +305,7 @@ labels-from (suc n) = do
   label-in top
   labels-from n
 
--- the takes of a row in order; then what is left
+-- the takes of a row in order, then what is left
 unfoldable pub taking : List Take → Taken → (Taken → Check Done) → Check Done
 taking [] a leave = leave a
 taking (wraps ∷ ts) a leave = do

@@ -46,7 +46,7 @@ digits value (c ∷ t) = elim (digit c) [
 unfoldable pub natural : Lex ℕ
 natural t = (unless 9 (peek digit t) >> digits 0) t
 
--- lines 713 to 723: `_` is 0, n and `_` is n + 1
+-- lines 713 to 723: `_` is 0, n followed by `_` is n + 1
 unfoldable pub index : Lex ℕ
 index = do
   first ← next-if (is "_")
@@ -59,7 +59,7 @@ index = do
       checked (n + 1)
   ]
 
--- an index and 1 more, as lines 1073, 1079, 1089, 1091 and 1285 have it
+-- an index plus 1, as in lines 1073, 1079, 1089, 1091 and 1285
 unfoldable pub index-plus-one : Lex ℕ
 index-plus-one = do
   i ← index
@@ -92,7 +92,8 @@ generic-param-index = do
   ]
 
 -- UTF-8 (RFC 3629, section 4): a row for each line of UTF8-2, UTF8-3 and UTF8-4
--- the first byte lies between first and last, the second between low and high, and then come as many of 80 to BF
+-- the first byte is between first and last, the second is between low and high, followed by that
+-- many bytes of 80 to BF
 pub record Utf8Row : Type 0 where
   pub first : ℕ
   pub last : ℕ
@@ -129,12 +130,12 @@ unfoldable pub by-row : ℕ → List Utf8Row → Text → Option Text
 by-row b [] t = none
 by-row b (r ∷ rs) t = elim (between (r .first) (r .last) b) [ true ↦ second r t | false ↦ by-row b rs t ]
 
--- the text after a character that begins with b; none where there is no such character
+-- the text after a character that begins with b; none if there is no such character
 unfoldable pub character : ℕ → Text → Option Text
 character b t = elim (ltb b 0x80) [ true ↦ some t | false ↦ by-row b utf8-rows t ]
 
--- the place of the first ill-formed sequence in a text of n bytes, of which t is left; f bounds the
--- characters and is reached only where no text is left: each takes a byte (proofs/Bounds
+-- The place of the first ill-formed sequence in a text of n bytes, where t is the rest. f bounds
+-- the characters and is reached only if no text is left: each takes a byte (proofs/Bounds
 -- `characters-bound`, `ill-formed-any`)
 unfoldable pub ill-formed-from : ℕ → ℕ → Text → Option ℕ
 ill-formed-from zero n t = none
@@ -151,17 +152,18 @@ well-formed t = elim (ill-formed t) [ none ↦ true | some i ↦ false ]
 unfoldable pub prefixes : List String
 prefixes = "_$s" ∷ "$s" ∷ "_$S" ∷ "$S" ∷ []
 
--- strip_prefix by the first that fits: its length
+-- strip_prefix with the first prefix that fits: its length
 unfoldable pub prefix-of : List String → Text → Option ℕ
 prefix-of [] t = none
 prefix-of (p ∷ ps) t = elim (same (bytes p) (take (length (bytes p)) t)) [ true ↦ some (length (bytes p)) | false ↦ prefix-of ps t ]
 
--- what stands before the first dot
+-- the text before the first dot
 unfoldable pub before-dot : Text → Text
 before-dot [] = []
 before-dot (b ∷ t) = elim (is "." b) [ true ↦ [] | false ↦ b ∷ before-dot t ]
 
--- a symbol taken apart: where its body begins, the body, and the suffix with its dot (empty: there is none)
+-- the parts of a symbol: where its body begins, the body, and the suffix with its dot (empty: there
+-- is none)
 pub record Symbol : Type 0 where
   pub start : ℕ
   pub body : Text

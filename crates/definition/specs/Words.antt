@@ -23,8 +23,8 @@ keep word words = if leb 2 (length word) && ltb (length words) most-words then w
 unfoldable pub starts : ℕ → Bool
 starts c = not (digit c) && not (is "_" c)
 
--- The loop of `note_words` (lines 849 to 871): the word that is open ([]: none), the byte before,
--- the text that is left, the words kept
+-- The loop of `note_words` (lines 849 to 871): the open word ([]: none), the byte before, the rest
+-- of the text, the words kept
 unfoldable pub note-words-from : Name → ℕ → Text → List Name → List Name
 note-words-from [] previous [] words = words
 note-words-from (x ∷ word) previous [] words = keep (x ∷ word) words
@@ -43,7 +43,7 @@ note-words-from (x ∷ word) previous (c ∷ t) words = elim (is "_" c) [
 unfoldable pub note-words : Text → List Name → List Name
 note-words text words = note-words-from [] 0 text words
 
--- An identifier so far, and whether words by letter may follow
+-- an identifier so far, and whether word letters may follow
 pub record Spelled : Type 0 where
   pub name : Name
   pub more : Bool
@@ -51,7 +51,7 @@ pub record Spelled : Type 0 where
 abbrev pub spelled : Name → Bool → Spelled
 spelled n m = record { name = n; more = m }
 
--- Words by letter (lines 804 to 813): lower case letters, and a capital as the last
+-- Word letters (lines 804 to 813): lower case letters, and a capital as the last
 unfoldable pub word-letters : List Name → Name → Lex Spelled
 word-letters words name [] = ok (spelled name true) []
 word-letters words name (c ∷ t) = elim (lower c) [
@@ -65,8 +65,8 @@ word-letters words name (c ∷ t) = elim (lower c) [
 unfoldable pub take-bytes : ℕ → Lex Name
 take-bytes n t = elim (leb n (length t)) [ true ↦ ok (take n t) (drop n t) | false ↦ refused 9 ]
 
--- A length and that many bytes, whole UTF-8 (lines 817 to 826); after the length of a punycode name
--- one `_` is passed over
+-- A length and that many bytes, whole UTF-8 (lines 817 to 826). After the length of a punycode name
+-- one `_` is skipped
 unfoldable pub literal : Bool → Lex Name
 literal punycoded = do
   count ← natural
@@ -84,8 +84,8 @@ pub record Identified : Type 0 where
 abbrev pub identified : Name → List Name → Identified
 identified n ws = record { name = n; words = ws }
 
--- The loop of `identifier` (lines 803 to 836); f bounds its rounds and is never reached: each
--- round that goes on takes a literal (proofs/Bounds `identifier-bound`, `identifier-any`)
+-- The loop of `identifier` (lines 803 to 836). f bounds its rounds and is never reached: each round
+-- that continues takes a literal (proofs/Bounds `identifier-bound`, `identifier-any`)
 unfoldable pub identifier-from : ℕ → (has-word-substitutions punycoded : Bool) → List Name → Name → Lex Identified
 identifier-from zero subs punycoded words name = refuse 9
 identifier-from (suc f) subs punycoded words name = do
@@ -100,7 +100,8 @@ unfoldable pub is-empty : Name → Bool
 is-empty [] = true
 is-empty (x ∷ xs) = false
 
--- lines 788 to 843, given the words known: lead `00` marks punycode, lead `0` alone allows words
+-- lines 788 to 843, given the words known: leading `00` marks punycode, leading `0` alone allows
+-- words
 unfoldable pub identifier : List Name → Lex Identified
 identifier words t = (do
   zero₁ ← next-if (is "0")

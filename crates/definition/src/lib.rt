@@ -1,6 +1,6 @@
-// The types that contracts name. What each of their cases means is in specs/Enums.antt.
+// The types that contracts name. The meaning of each of their cases is in specs/Enums.antt.
 
-// 1 to 12 of document 01, "How each operation refuses".
+// The refusals 1 to 12 of document 01, "How each operation refuses".
 pub enum Refusal {
     Ceiling,
     Workspace,
@@ -16,14 +16,14 @@ pub enum Refusal {
     Output,
 }
 
-// Turns of `run`, the sum of all charges, and wraps.
+// The number of turns of `run`, the sum of all charges, and the number of wraps.
 pub struct Counts {
     pub steps: usize,
     pub total: usize,
     pub wraps: usize,
 }
 
-// What a call answers: counts and length; or the refusal and its place.
+// The answer of a call: counts and length; or the refusal and its place.
 pub enum Answer {
     Accepted(Counts, usize),
     Refused(Refusal, usize),
@@ -43,9 +43,10 @@ pub struct Param {
     pub index: usize,
 }
 
-// The operators and their operands. A number that stands for a name is its place among the fixed names.
+// The operators and their operands. A number that represents a name is its index among the fixed
+// names.
 
-// A node that is pushed as it stands.
+// A node that is pushed as it is.
 pub enum Leaf {
     Module(usize),
     StandardNominal(NominalKind, usize),
@@ -64,7 +65,8 @@ pub enum Subject {
     OfMember(Param),
 }
 
-// The kind of constraint. Of a layout, whether its letter reads: it is judged after the stack.
+// The kind of constraint. For a layout, whether its letter is valid: this is judged after the
+// stack.
 pub enum Constraint {
     Conforms,
     Superclass,
@@ -79,7 +81,7 @@ pub enum Accessor {
     Broken,
 }
 
-// What a record is about.
+// The subject of a record.
 pub enum About {
     Type,
     Entity,
@@ -89,11 +91,11 @@ pub enum About {
     Anything,
 }
 
-// One operator but for `A`, whose letters are read and performed one by one.
+// One operator other than `A`, whose letters are read and performed one by one.
 pub enum Operator {
     Nominal(NominalKind),
     Leaf(Leaf),
-    // `S`: so many of it.
+    // `S`: the number of copies, and the leaf.
     Standard(usize, Leaf),
     Optional(usize),
     Tuple,

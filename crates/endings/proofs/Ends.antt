@@ -1,4 +1,4 @@
--- What a run's end comes to, whatever ran. Assumes nothing.
+-- The result at the end of any run. Assumes nothing.
 use mathlib.Core.Path.{_≡_, refl, sym, ap, subst, _∙_}
 use mathlib.Core.Bool.{Bool}
 use mathlib.Core.List.{List, _++_}
@@ -44,7 +44,7 @@ past out b s h = ap (λ (t : Bool). if t then accepted b s else refusal 12 0) (f
 pub answers-is : {a b : Calls.Answer} {out out′ : List ℕ} {r : Answer} → a ≡ b → Answers b out out′ r → Answers a out out′ r
 answers-is {out = out} {out′ = out′} {r = r} e h = subst (λ (x : Calls.Answer). Answers x out out′ r) (sym e) h
 
--- a refusal leaves the output slice as it was
+-- a refusal leaves the output slice unchanged
 pub refused-answers : (out : List ℕ) (r : Refusal) (p : ℕ) → Answers (within (length out) (refusal (number r) p)) out out (Answer.Refused r p)
 unfolding refusal values
 refused-answers out r p = answers-is (within-refusal (length out) (number r) p) (record { values = refl; written = refl })
@@ -62,7 +62,7 @@ module _ (b : B.Budget) (s out out′ : List ℕ) (r : Answer) where
   unfolding refusal
   past-answers l w v = answers-is (past (length out) b s l) (record { values = v; written = w })
 
-  -- a stack's numbers
+  -- the numbers of a stack
   pub stacked-answers : (w : Written) → Writing s out out′ w → Stacked b w r → Answers (within (length out) (accepted b s)) out out′ r
   stacked-answers (Written.Numbers n) h v = written-answers n (h .many) (h .within) (h .is) v
   stacked-answers Written.Past h v = past-answers (h .past) (h .same) v

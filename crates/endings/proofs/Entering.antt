@@ -1,4 +1,4 @@
--- From the checks before a run to a call's answer. Assumes nothing.
+-- From the checks before a run to the answer of a call. Assumes nothing.
 use mathlib.Core.Path.{_≡_, refl, sym, ap, subst, _∙_}
 use mathlib.Core.Bool.{not}
 use mathlib.Core.List.{List}

@@ -1,4 +1,4 @@
--- What the definition's runs answer, and which numbers they refuse with. Assumes nothing.
+-- The answers of the definition's runs, and the numbers that they refuse with. Assumes nothing.
 use mathlib.Core.Path.{_≡_, refl}
 use mathlib.Core.Bool.{Bool, true, false, not}
 use mathlib.Core.List.{List, []}
@@ -79,7 +79,7 @@ pub check-k-ran : (N k : ℕ) (s : Symbol) → Ran (Check.stopped-after N k s)
 unfolding Check.stopped-after
 check-k-ran N k s = ended-ran s _ _ (check-numbers N k (s .body)) (λ m. accepted-ran (m .budget) _)
 
--- 12 comes late too
+-- 12 is also late
 pub within-late : (out : ℕ) (a : Calls.Answer) → Ran a → Late (within out a)
 unfolding within refusal
 within-late out a h = go (leb (length (a .written)) out)

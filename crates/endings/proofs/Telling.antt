@@ -1,4 +1,4 @@
--- What a call tells of its answer. Assumes nothing.
+-- What a call reports about its answer. Assumes nothing.
 use mathlib.Core.Path.{_≡_, ap, subst, _∙_}
 use mathlib.Core.List.{List}
 use Prim.Native.Nat.{ℕ}
@@ -10,7 +10,7 @@ use Rattle.endings.specs.Calls.{Scratch}
 use Rattle.values.specs.Six.{six}
 use Rattle.values.specs.Told.{Told}
 
--- a call's answer, told
+-- the answer of a call, as reported
 pub told : {a : Calls.Answer} {out out′ answer : List ℕ} {r : Answer} → Answers a out out′ r → answer ≡ six (values r) → Told a out out′ answer
 told h e = record { values = e ∙ ap six (h .values); written = h .written }
 

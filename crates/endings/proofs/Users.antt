@@ -1,5 +1,5 @@
--- What a user wants to read of the calls, drawn from their contracts: what a refused call leaves, what an accepted one wrote, and which numbers
--- there are. Assumes nothing.
+-- What a user wants to read about the calls, derived from their contracts: what a refused call
+-- leaves, what an accepted one wrote, and which numbers there are. Assumes nothing.
 use mathlib.Core.Path.{_≡_, refl, sym, ap, subst, _∙_}
 use mathlib.Core.Bool.{Bool, true, false, not}
 use mathlib.Core.List.{List, [], _++_}
@@ -43,16 +43,16 @@ admit-plain need N workspace t rest h = go (good-ceiling N) (leb (need * N) work
     go true true true none = h
 
 -- WHAT A USER READS
--- the front of the output slice is the text, as long as the answer says, and the rest is as it was
+-- the front of the output slice is the text, as long as the answer says, and the rest is unchanged
 pub record Wrote (text out out′ : List ℕ) (r : Answer) : Type 0 where
   pub long : values r .length ≡ length text
   pub fits : values r .length ≤ length out
   pub front : take (values r .length) out′ ≡ text
   pub rest : drop (values r .length) out′ ≡ drop (values r .length) out
 
--- of any call with an output slice, where the definition reads `text` (bytes, or a stack's numbers):
--- a refused call leaves the slice as it was; an accepted one wrote the text; a refusal has a number from 1 to 12; and it is 12 only where the text
--- is longer than the slice
+-- For any call with an output slice, where the definition reads `text` (bytes, or the numbers of a
+-- stack): a refused call leaves the slice unchanged; an accepted one wrote the text; a refusal has
+-- a number from 1 to 12; and it is 12 only if the text is longer than the slice
 pub record Promised (text out out′ : List ℕ) (r : Answer) : Type 0 where
   pub refused : T (not (eqb (values r .number) 0)) → out′ ≡ out
   pub accepted : T (eqb (values r .number) 0) → Wrote text out out′ r
@@ -105,7 +105,7 @@ module _ (a : Calls.Answer) (h : Plain a) {out out′ : List ℕ} {r : Answer} w
       go true e x = fitting (leb→le (length (a .written)) (length out) (subst T (sym e) tt)) x
       go false e x = past (nleb→lt (length (a .written)) (length out) (subst (λ (z : Bool). T (not z)) (sym e) tt)) x
 
-  -- refused or not, what the definition writes stands at the front
+  -- refused or not, what the definition writes is at the front
   pub wrote : Answers (within (length out) a) out out′ r → Wrote (within (length out) a .written) out out′ r
   unfolding within refusal
   wrote = go (leb (length (a .written)) (length out)) refl

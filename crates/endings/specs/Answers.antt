@@ -1,4 +1,4 @@
--- What a call's answer says of the definition's. Assumes nothing.
+-- What the answer of a call says about the definition's answer. Assumes nothing.
 use mathlib.Core.Path.{_≡_}
 use mathlib.Core.List.{List, _++_}
 use Prim.Native.Nat.{ℕ, _≤_, _<_}
@@ -11,14 +11,14 @@ use Rattle.definition.specs.declared.Answer.{Answer}
 use Rattle.runs.specs.declared.Written.{Written}
 use Rattle.runs.specs.declared.Written.the-variants as Written
 
--- number, place, counts and length are the definition's; what the definition writes stands at the front of the output slice, and the rest of
--- it is as it was. A refusal writes nothing
+-- Number, place, counts and length are the definition's. What the definition writes is at the front
+-- of the output slice, and the rest of the slice is unchanged. A refusal writes nothing
 pub record Answers (a : Calls.Answer) (out out′ : List ℕ) (r : Answer) : Type 0 where
   pub values : values r ≡ a .values
   pub written : out′ ≡ a .written ++ drop (length (a .written)) out
 
--- A RUN'S END
--- a text of n bytes, or as many as there is room for and one more
+-- THE END OF A RUN
+-- a text of n bytes, or n is one more than the room
 pub record Measured (b : B.Budget) (n room : ℕ) (r : Answer) : Type 0 where
   pub fits : n ≤ room → values r ≡ record { number = 0; place = 0; steps = b .steps; total = b .total; wraps = b .wraps; length = n }
   pub past : room < n → values r ≡ refusal 12 0 .values

@@ -1,4 +1,5 @@
-// What a run's end comes to, whatever ran: its counts, and 12 where a text or a stack exceeds the output slice.
+// The result at the end of any run: its counts, or refusal 12 if a text or a stack exceeds the
+// output slice.
 ghost use mathlib.Core.Path.{_≡_};
 ghost use Rattle.budget.specs.Spent.{budget-of};
 ghost use Rattle.endings.specs.Answers.{Measured, Stacked};
@@ -18,7 +19,8 @@ pub fn counts(budget: Budget) -> Counts
     }
 }
 
-// A text of that length, where there is room for so many bytes. 12: it exceeds them.
+// The answer for a text of n bytes, where there is room for `room` bytes. Refusal 12: the text
+// exceeds them.
 pub fn measured(budget: Budget, n: usize, room: usize) -> Answer
     ensures { λ r. ⌜ Measured (budget-of budget) n room r ⌝ }
 {
@@ -28,7 +30,7 @@ pub fn measured(budget: Budget, n: usize, room: usize) -> Answer
     Answer::Accepted(counts(budget), n)
 }
 
-// What a stopped run wrote. 12: the stack exceeds the slice.
+// The answer for what a stopped run wrote. Refusal 12: the stack exceeds the slice.
 pub fn stacked(budget: Budget, written: Written) -> Answer
     ensures { λ r. ⌜ Stacked (budget-of budget) written r ⌝ }
 {

@@ -1,4 +1,5 @@
--- The operators of variables, initializers and functions: a type under a signature, what follows it, and the entity's record.
+-- The operators of variables, initializers and functions: a type under a signature, what follows
+-- it, and the record of the entity.
 use mathlib.Core.Path.{_≡_, refl, sym, ap, _∙_, subst}
 use mathlib.Core.Bool.{Bool}
 use mathlib.Core.List.{List, _∷_}
@@ -53,7 +54,7 @@ module _ {f : Run Node} {own gain : ℕ} {w w₁ : List ℕ} {N : ℕ} {st u : S
   pub typed-small : at w₁ p 1 ≤ most
   typed-small = let h = typed .holds in omega (arith, h .light, h .charged, h .small, typed .lies .size-is)
 
--- an arm's answer
+-- the result of an arm
 pub typed-at : (f : Run Node) (own gain : ℕ) {w w′ : List ℕ} {N : ℕ} {st : State} {r : Built} (p : ℕ) (u : State) → r ≡ Built.Place p u → TakesType f own gain w w′ N st r → GivesType f own gain w w′ N st p u
 typed-at f own gain {w} {w′} {N} {st} p u e h = subst (λ (x : Built). TakesType f own gain w w′ N st x) e h
 
@@ -151,7 +152,7 @@ pub variable-untyped : (accessor : Accessor) {w w′ : List ℕ} {N : ℕ} {st :
 variable-untyped accessor e c = first-refused (λ s. R.variable (letter s accessor)) variable-type (λ s. variable-rest (letter s accessor)) 1 e (omega arith) (λ s m. variable-split (letter s accessor) m) c
 
 -- LABELLED ENTITIES
--- first the signature, then f, and the rest
+-- the signature first, then f, and the rest
 pub signed-split : (f : Run Node) (k : Node → Run Done) (m : Demangler) → and-then (R.try-signature m) (λ s. f >>= λ t. R.under-signature s t >>= k) ≡ and-then (signed-type f m) k
 signed-split f k m = go (R.try-signature m)
   where
@@ -159,7 +160,7 @@ signed-split f k m = go (R.try-signature m)
     go (refused r) = refl
     go (ok s m₁) = sym (assoc (f m₁) (λ t. R.under-signature s t) k)
 
--- an arm's answer
+-- the result of an arm
 module _ {w w′ : List ℕ} {N : ℕ} {st : State} {ty : ℕ} {r : LabelsTaken} (h : (nm : Names) (x : Node) → Lies (Named nm) x w ty → TakesLabels nm (R.labels x) w w′ N st r) where
   pub labels-at : (first number : ℕ) (u : State) → r ≡ LabelsTaken.Labels first number u → (nm : Names) (x : Node) → Lies (Named nm) x w ty → GivesLabels nm (R.labels x) w w′ N st first number u
   labels-at first number u e nm x l = subst (λ (y : LabelsTaken). TakesLabels nm (R.labels x) w w′ N st y) e (h nm x l)
@@ -167,7 +168,7 @@ module _ {w w′ : List ℕ} {N : ℕ} {st : State} {ty : ℕ} {r : LabelsTaken}
   pub labels-not : r ≡ LabelsTaken.Nothing → (nm : Names) (x : Node) → Lies (Named nm) x w ty → ((sp : Spare) (m : Demangler) → Holds nm w N st sp m → R.labels x m ≡ refused 10) × Beyond 64 N w w′
   labels-not e nm x l = subst (λ (y : LabelsTaken). TakesLabels nm (R.labels x) w w′ N st y) e (h nm x l)
 
--- the type, and the labels that it asks for
+-- the type, and the labels that it requires
 module _ {f : Run Node} {own gain : ℕ} {w w₁ : List ℕ} {N : ℕ} {st u₁ : State} {ty : ℕ} (a : GivesType f own gain w w₁ N st ty u₁) (low : own ≤ 4) where
   -- no labels
   pub labelless : {w₂ : List ℕ} (o : Run Done) (k : Node → Labels → Run Done) → ((m : Demangler) → o m ≡ and-then (f m) (λ t. R.labels t >>= k t)) → Ready w N st full-spare → ((nm : Names) (x : Node) → Lies (Named nm) x w₁ ty → ((sp : Spare) (m : Demangler) → Holds nm w₁ N u₁ sp m → R.labels x m ≡ refused 10) × Beyond 64 N w₁ w₂) → Operates (λ _. o) w w₂ N st (Step.Refused Refusal.Stack)
@@ -197,7 +198,7 @@ module _ {f : Run Node} {own gain : ℕ} {w w₁ : List ℕ} {N : ℕ} {st u₁ 
     pub labels-keep : Keeps w₁ w₂ N (u₁ .top)
     labels-keep = labelled .keeps
 
-    -- a context taken behind the labels
+    -- a context taken after the labels
     module _ {u₃ : State} {w₃ : List ℕ} {e : ℕ} {u₄ : State} (same : u₃ .top ≡ u₂ .top) (d : Gives R.context 1 w₂ w₃ N u₃ e u₄) where
       pub labelled-entity : Entity w₃ N u₄ e ty
       labelled-entity =

@@ -53,7 +53,7 @@ unsigned f = record {
   gives = λ nm sp m h. record { signature = none; machine = m; is = f nm sp m h; signs = tt; holds = h };
 }
 
--- a signature stays where the records below top stay
+-- a signature is unchanged where the records below top are unchanged
 signs-stay : (nm : Names) {w w′ : List ℕ} {N top : ℕ} (top′ : ℕ) → top ≤ top′ → Keeps w w′ N top → (g : Signature) (s : Option Node) → Signs nm w top g s → Signs nm w′ top′ g s
 signs-stay nm top′ l k (Signature.At p) (some s) h = (omega (arith, h .0), k .trees nm s p (h .0) (h .1))
 signs-stay nm top′ l k (Signature.At p) none h = h
@@ -64,7 +64,7 @@ signs-stay nm top′ l k Signature.Nothing none h = h
 pub signing : {w : List ℕ} {N : ℕ} {st : State} {g g′ : Signature} {ty : ℕ} → g ≡ g′ → Signing w N st g ty → Signing w N st g′ ty
 signing {w} {N} {st} {g} {g′} {ty} e h = subst (λ (x : Signature). Signing w N st x ty) e h
 
--- the numbers alone
+-- only the numbers
 pub record SigningAt (w : List ℕ) (N : ℕ) (st : State) (p ty : ℕ) : Type 0 where
   pub p-below : p < st .top
   pub p-small : at w p 1 ≤ most
@@ -85,7 +85,7 @@ signing-at {w} {N} {st} {p} {ty} g = go (g .signed-by) (g .signs) (g .holds)
       inside = record { small = q .small; long = q .long; charged = q .charged; room = q .room; deep = omega (arith, q .deep); kept = omega (arith, q .kept) };
     }
 
--- after the wrap, which changes the budget only
+-- after the wrap, which changes only the budget
 pub wrapped-inside : {w : List ℕ} {N : ℕ} {st u : State} {makes pushes keeps : ℕ} → WrapsTo w N st u → Inside w N st makes pushes keeps → Inside w N u makes pushes keeps
 wrapped-inside t i = record {
   small = i .small;
@@ -140,7 +140,7 @@ under-refused {w} {N} {st} g p ty e f = subst (λ (y : Signature). TakesUnder w 
     go nm none x sp m h q = absurd h
     go nm (some s) x sp m h q = rw (f nm sp m q) refl
 
--- the answer for the signature that was matched
+-- the result for the signature that was matched
 pub under-at : {w w′ : List ℕ} {N : ℕ} {st : State} {g g′ : Signature} {ty p : ℕ} {u : State} → g ≡ g′ → GivesUnder w w′ N st g′ ty p u → GivesUnder w w′ N st g ty p u
 under-at {w} {w′} {N} {st} {g} {g′} {ty} {p} {u} e h = subst (λ (x : Signature). GivesUnder w w′ N st x ty p u) (sym e) h
 
@@ -158,7 +158,7 @@ module _ {nm : Names} {w w′ : List ℕ} {N : ℕ} {r u : State} {signature : S
         holds = less-spare (for-nodes (weight-of s) (taken gain (size x) (for-nodes 1 sp))) (taken gain (size (o .tree)) sp) (omega arith) (omega arith) (omega (arith, o .weighs)) (omega arith) (o .holds);
       }
 
--- first the type
+-- the type first
 module _ {w : List ℕ} {N : ℕ} {st u : State} {t : ℕ} {r : Signed} (a : Gives (R.pop-if K.is-type) 3 w w N st t u) (b : GivesSigned w N u r) where
   pub type-signing : Ready w N st full-spare → Signing w N (r .next) (r .signature) t
   type-signing q =
@@ -189,7 +189,7 @@ pub variable-untyped : {w : List ℕ} {N : ℕ} {st : State} → ((nm : Names) (
 unfolding number
 variable-untyped {w} {N} f = (λ nm sp m h. rw (f nm (for-nodes 1 sp) m h) refl, beyond-itself w N)
 
--- first the signature
+-- the signature first
 module _ {f : Run Node} {own gain : ℕ} {w w₁ : List ℕ} {N : ℕ} {st u : State} {t : ℕ} {r : Signed} (b : GivesSigned w N st r) (a : GivesType f own gain w w₁ N (r .next) t u) where
   pub signed-signing : own ≤ 4 → Ready w N st full-spare → Signing w₁ N u (r .signature) t
   signed-signing l q =
@@ -204,7 +204,7 @@ module _ {f : Run Node} {own gain : ℕ} {w w₁ : List ℕ} {N : ℕ} {st u : S
           let g = a .gives (q .names) (signed (some x) nothing-spare) m (less-spare (signed (some x) full-spare) (for-nodes own (signed (some x) nothing-spare)) (omega arith) (omega arith) (omega arith) (omega arith) h) in
           record { names = q .names; machine = g .machine; signed-by = some x; signs = signs-stay (q .names) (u .top) (a .rising) (a .keeps) (r .signature) (some x) k; below = a .below; small = omega (arith, g .holds .light, g .holds .charged, g .holds .small, g .lies .size-is); holds = less-spare (taken gain (size (g .tree)) (signed (some x) nothing-spare)) (signed (some x) nothing-spare) (omega arith) (omega arith) (omega arith) (omega arith) (g .holds) }
 
-  -- what the signature gave back goes past the step between
+  -- what the signature gave back is still available after the step between
   past-type : (nm : Names) (sp : Spare) (s : Option Node) (m : Demangler) → Holds nm w N (r .next) (signed s (for-nodes (own + 1) sp)) m → (x : Node) × (m₁ : Demangler) × (f m ≡ ok x m₁) × Lies (Named nm) x w₁ t × Holds nm w₁ N u (signed s (taken gain (size x) (for-nodes 1 sp))) m₁
   past-type nm sp none m h =
       let g = a .gives nm (for-nodes 1 sp) m (less-spare (for-nodes (own + 1) sp) (for-nodes own (for-nodes 1 sp)) (omega arith) (omega arith) (omega arith) (omega arith) h) in
@@ -232,7 +232,7 @@ module _ {f : Run Node} {own gain : ℕ} {w w₁ : List ℕ} {N : ℕ} {st u : S
     record { past = λ i l. c .1 .past i l ∙ a .keeps .past i l; long = c .1 .long ∙ a .keeps .long },
   )
 
--- a type that is taken as it stands
+-- a type that is taken as it is
 pub as-type : {f : Run Node} {gain : ℕ} {w w′ : List ℕ} {N : ℕ} {st u : State} {p : ℕ} → Gives f gain w w′ N st p u → GivesType f 0 gain w w′ N st p u
 as-type g = record {
   below = g .below;

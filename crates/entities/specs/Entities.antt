@@ -1,4 +1,4 @@
--- What the code of entities says of the definition's steps.
+-- What the code of entities says about the definition's steps.
 use mathlib.Core.Path.{_≡_}
 use mathlib.Core.List.{List}
 use mathlib.Core.Option.{Option, some, none}
@@ -21,7 +21,8 @@ use Rattle.entities.specs.declared.Signed.{Signed}
 use Rattle.nodes.specs.declared.Built.{Built}
 use Rattle.nodes.specs.declared.Built.the-variants as Built
 
--- the nodes of kind k over one tree, in field 4, with the number a in field 3; by the fixed names
+-- the nodes of kind k over one tree, in field 4, with the number a in field 3; given the fixed
+-- names
 pub record OneOver (k a : ℕ) (c : (ℕ → String) → Node → Node) : Type 0 where
   pub kind-is : (s : ℕ → String) (x : Node) → kind (c s x) ≡ k
   pub size-is : (s : ℕ → String) (x : Node) → size (c s x) ≡ 1 + size x
@@ -63,7 +64,7 @@ pub record GivesSigned (w : List ℕ) (N : ℕ) (st : State) (r : Signed) : Type
   pub gives : (nm : Names) (sp : Spare) (m : Demangler) → Holds nm w N st sp m → GivenSigned nm w N r sp m
 
 -- TYPES
--- the step f gives a type, which weighs at most so much more than what was taken
+-- the step f gives a type, which weighs at most `own` more than what was taken
 pub record GivesType (f : Run Node) (own gain : ℕ) (w w′ : List ℕ) (N : ℕ) (st : State) (p : ℕ) (u : State) : Type 0 where
   pub below : p < u .top
   pub deep : u .depth < st .depth
@@ -95,7 +96,8 @@ abbrev pub TakesUnder : (w w′ : List ℕ) (N : ℕ) (st : State) (signature : 
 TakesUnder w w′ N st signature ty (Built.Place p u) = GivesUnder w w′ N st signature ty p u
 TakesUnder w w′ N st signature ty (Built.Refused r) = ((nm : Names) (s : Option Node) (x : Node) (sp : Spare) (m : Demangler) → Signs nm w (st .top) signature s → Holds nm w N st sp m → under-signature s x m ≡ refused (number r)) × Beyond 64 N w w′
 
--- some type lies at ty, some signature where there is one, and there is room for the record over them
+-- w holds some type at ty, some signature if there is one, and there is room for the record over
+-- them
 pub record Signing (w : List ℕ) (N : ℕ) (st : State) (signature : Signature) (ty : ℕ) : Type 0 where
   pub names : Names
   pub machine : Demangler
@@ -105,10 +107,10 @@ pub record Signing (w : List ℕ) (N : ℕ) (st : State) (signature : Signature)
   pub small : at w ty 1 ≤ most
   pub holds : Holds names w N st (signed signed-by nothing-spare) machine
 
--- first the type and then the signature, as of a variable
+-- the type first and then the signature, as for a variable
 abbrev pub variable-type : Run Node
 variable-type = pop-if K.is-type >>= λ t. try-signature >>= λ s. under-signature s t
 
--- first the signature, as of an initializer
+-- the signature first, as for an initializer
 abbrev pub signed-type : Run Node → Run Node
 signed-type f = try-signature >>= λ s. f >>= λ t. under-signature s t

@@ -1,4 +1,4 @@
-// What the operators of entities do to the records: the functions of the Rust under their names.
+// The effects of the entity operators on the records: the functions of the Rust under their names.
 ghost use Prim.Native.Nat.{_+_};
 ghost use Rattle.definition.specs.Base.{bytes};
 ghost use Rattle.definition.specs.Kind as K;
@@ -24,7 +24,7 @@ use records::Fields;
 use records::Popped;
 use records::State;
 
-// A signature's place, where there is one.
+// The place of a signature, if there is one.
 pub enum Signature {
     At(usize),
     Nothing,
@@ -47,7 +47,7 @@ pub fn deinitializer(ws: &mut [u32], n: usize, st: State, deallocating: bool) ->
     }
 }
 
-// `w`: a value witness of the type on top, whose name is a fixed one.
+// `w`: a value witness of the type on top. Its name is a fixed name.
 pub fn value_witness(ws: &mut [u32], n: usize, st: State, name: usize) -> Step
     requires { ⌜ Ready (now ws) n st full-spare ⌝ }
     ensures { λ r. ⌜ Operates (one-over (R.pop-if K.is-type) (λ fixed. ValueWitness (bytes (fixed name)))) (now (ws .entry)) (now (ws .exit)) n st r ⌝ }
@@ -60,7 +60,7 @@ pub fn value_witness(ws: &mut [u32], n: usize, st: State, name: usize) -> Step
 
 // SIGNATURES
 
-// The signature on top, if there is one.
+// Takes the signature on top, if there is one.
 fn try_signature(ws: &[u32], n: usize, st: State) -> Signed
     requires { ⌜ Ready (now ws) n st nothing-spare ⌝ }
     ensures { λ r. ⌜ GivesSigned (now (ws .entry)) n st r ⌝ }
@@ -77,7 +77,7 @@ fn try_signature(ws: &[u32], n: usize, st: State) -> Signed
     }
 }
 
-// The type at place ty under a signature, if there is one: one wrap more.
+// Puts the type at place ty under a signature, if there is one, and counts one wrap.
 pub fn under_signature(
     ws: &mut [u32],
     n: usize,
@@ -108,7 +108,7 @@ pub fn under_signature(
     }
 }
 
-// The type of a variable, under the signature below it.
+// Builds the type of a variable, under the signature below it.
 fn variable_type(ws: &mut [u32], n: usize, st: State) -> Built
     requires { ⌜ Ready (now ws) n st full-spare ⌝ }
     ensures { λ r. ⌜ TakesType variable-type 1 3 (now (ws .entry)) (now (ws .exit)) n st r ⌝ }
@@ -123,7 +123,7 @@ fn variable_type(ws: &mut [u32], n: usize, st: State) -> Built
     }
 }
 
-// The type of an initializer, under the signature above it.
+// Builds the type of an initializer, under the signature above it.
 fn initializer_type(ws: &mut [u32], n: usize, st: State) -> Built
     requires { ⌜ Ready (now ws) n st full-spare ⌝ }
     ensures { λ r. ⌜ TakesType (signed-type (R.pop-if K.is-type)) 1 3 (now (ws .entry)) (now (ws .exit)) n st r ⌝ }
@@ -187,7 +187,7 @@ pub fn initializer(ws: &mut [u32], n: usize, st: State, allocating: bool) -> Ste
     }
 }
 
-// The type of a function, under the signature above it.
+// Builds the type of a function, under the signature above it.
 fn plain_type(ws: &mut [u32], n: usize, st: State) -> Built
     requires { ⌜ Ready (now ws) n st full-spare ⌝ }
     ensures { λ r. ⌜ TakesType (signed-type R.function-type) 2 0 (now (ws .entry)) (now (ws .exit)) n st r ⌝ }

@@ -1,4 +1,4 @@
--- Records of entities: those in a context and of a type.
+-- Records of entities: those with a context and a type.
 use mathlib.Core.Path.{_≡_, refl, sym, ap, _∙_, subst}
 use mathlib.Core.List.{List, [], _∷_}
 use Prim.Native.Nat.{ℕ, _+_, _<_}
@@ -103,7 +103,7 @@ module _ {w : List ℕ} {N : ℕ} {st : State} {c ty : ℕ} (q : Entity w N st c
     fits = omega (arith, g .fields 1 (omega arith), q .c-small, q .ty-small);
   }
 
--- a name's answer
+-- the result for a name
 pub named : {f : Run Name} {w : List ℕ} {N : ℕ} {st : State} {r : NameTaken} (k : ℕ) (u : State) → r ≡ NameTaken.Name k u → TakesName f w N st r → GivesName f w N st k u
 named {f} {w} {N} {st} k u e h = subst (λ (x : NameTaken). TakesName f w N st x) e h
 

@@ -1,4 +1,4 @@
--- What the records of entities say of the definition's steps.
+-- What the records of entities say about the definition's steps.
 use mathlib.Core.Path.{_≡_}
 use mathlib.Core.List.{List}
 use mathlib.Core.Option.{Option, some, none}
@@ -27,7 +27,7 @@ pub record Entity (w : List ℕ) (N : ℕ) (st : State) (c ty : ℕ) : Type 0 wh
   pub c-small : at w c 1 ≤ most
   pub ty-small : at w ty 1 ≤ most
 
--- what is left of an operator, from a machine with so much to spare on
+-- the rest of an operator, from a machine with that much to spare
 abbrev pub Ends : Run Done → Names → Spare → (w w′ : List ℕ) (N : ℕ) (st : State) → Step → Type 0
 Ends f nm sp w w′ N st (Step.Done u) = (m : Demangler) → Holds nm w N st sp m → Ran f nm w′ N u m
 Ends f nm sp w w′ N st (Step.Refused r) = (m : Demangler) → Holds nm w N st sp m → f m ≡ refused (number r)
@@ -41,7 +41,7 @@ letter fixed Accessor.Broken = bad 9
 abbrev pub variable-end : Late (Option String) → Node → Run Done
 variable-end l v = judge l >>= λ a. push (accessed v a)
 
--- a variable is left, or its accessor
+-- a variable or its accessor is pushed
 pub record LeavesVariable (accessor : Accessor) (w w′ : List ℕ) (N : ℕ) (st : State) (name c ty : ℕ) (r : Step) : Type 0 where
   pub ends : (nm : Names) (n : Name) (x t : Node) → Fixed (nm .fixed) → Named nm name n → Lies (Named nm) x w c → Lies (Named nm) t w ty → Ends (variable-end (letter (nm .fixed) accessor) (Variable x n t)) nm (spare 7 1 (size x + size t + 2) 0) w w′ N st r
   pub beyond : Beyond 64 N w w′

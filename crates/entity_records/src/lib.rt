@@ -1,4 +1,4 @@
-// The records of entities: over one tree, or in a context and of a type.
+// The records of entities: over one tree, or with a context and a type.
 ghost use mathlib.Core.List.{[], _∷_};
 ghost use Prim.Native.Nat.{_+_};
 ghost use Rattle.records.specs.Lies.{at};
@@ -11,7 +11,7 @@ use nodes::Step;
 use records::Fields;
 use records::State;
 
-// A node of a kind over the tree at place p, with one number more, on top of the stack.
+// Pushes a node of a kind over the tree at place p, with one more number.
 pub fn push_over(ws: &mut [u32], n: usize, st: State, p: usize, kind: u32, a: u32) -> State
     requires { ⌜ Under (now ws) n st p ⌝ }
     ensures { λ r. ⌜ Left (now (ws .entry)) (now (ws .exit)) n st r (kind ∷ (at (now (ws .entry)) p 1 + 1) ∷ 0 ∷ a ∷ p ∷ 0 ∷ 0 ∷ 0 ∷ []) ⌝ }
@@ -27,7 +27,7 @@ pub fn push_over(ws: &mut [u32], n: usize, st: State, p: usize, kind: u32, a: u3
     nodes::push_new(ws, n, st, kind, size + 1, 0, rest)
 }
 
-// The record of an entity in the context at place c, of the type at place ty.
+// Makes the record of an entity in the context at place c, of the type at place ty.
 fn entity(
     ws: &mut [u32],
     n: usize,
@@ -54,7 +54,7 @@ fn entity(
     records::grow(ws, n, st, kind, size + 1, 0, rest)
 }
 
-// The same on top of the stack.
+// Makes the same record and pushes it.
 pub fn push_entity(
     ws: &mut [u32],
     n: usize,
@@ -75,7 +75,7 @@ pub fn push_entity(
     records::push(ws, n, u, top)
 }
 
-// A variable is left, or its accessor; a letter that reads as none is refused.
+// Pushes a variable or its accessor. An invalid letter is refused.
 pub fn leave_variable(
     ws: &mut [u32],
     n: usize,

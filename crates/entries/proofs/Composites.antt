@@ -1,4 +1,4 @@
--- What stands for one entry, by the kind of what was on top. Assumes nothing.
+-- What represents one entry, by the kind of what was on top. Assumes nothing.
 use mathlib.Core.Path.{_≡_, ap, _∙_}
 use mathlib.Core.Bool.{true, false, _&&_}
 use mathlib.Core.List.{List}
@@ -30,7 +30,7 @@ module _ {w : List ℕ} {st u : State} {e : Entry} (h : Went (M.pop kind-of) w s
   unfolding C.pop-name C.name-in number
   name-other q = next-refuses _ h (no-refuses _ (ne-eqb (e .kind) 0 q) (stops Stack))
 
-  -- an identifier stands for a module
+  -- an identifier represents a module
   pub context-module : Held w st → e .kind ≡ 0 → Went C.context w st 1 1 (K.entry 1 1 0) u
   unfolding C.context C.context-in
   context-module k q = next _ (one-node k h) (yes-went _ (eq-eqb (e .kind) 0 q) (stays (K.entry 1 1 0))) (omega arith) (omega arith)
@@ -47,7 +47,7 @@ module _ {w : List ℕ} {st u : State} {e : Entry} (h : Went (M.pop kind-of) w s
   unfolding C.protocol C.protocol-in
   protocol-itself q = next _ h (yes-went _ (eq-eqb (e .kind) 5 q) (stays (entry-of e))) (omega arith) (omega arith)
 
-  -- a list of one stands for its member
+  -- a list of one represents its member
   pub protocol-member : e .kind ≡ 15 → e .count ≡ 1 → Went C.protocol w st 1 (e .size - 1) (K.entry 5 (e .size - 1) 0) u
   unfolding C.protocol C.protocol-in
   protocol-member q r =

@@ -30,7 +30,7 @@ assoc (ok a s) f g = refl
 assoc (refused r) f g = refl
 
 module _ {A B : Type 0} {f : Check A} {w : List ℕ} {st : State} where
-  -- what follows a step that went
+  -- what follows a step that succeeded
   pub on : {l m : ℕ} {a : A} {u : State} → Went f w st l m a u → (N : ℕ) (k : A → Check B) → and-then (f (machine-of w N st)) k ≡ k a (machine-of w N u)
   on h N k = ap (λ (o : Out Shapes A). and-then o k) (h .is N)
 
@@ -69,11 +69,11 @@ module _ {A : Type 0} {w : List ℕ} {st : State} where
 pub held-after : {A : Type 0} {f : Check A} {w : List ℕ} {st u : State} {l m : ℕ} {a : A} → Went f w st l m a u → Held w st → Held w u
 held-after {u = u} h k = held-less u k (omega (arith, h .depth))
 
--- an entry is one node at least
+-- an entry is at least one node
 pub one-node : {A : Type 0} {f : Check A} {w : List ℕ} {st u : State} {m : ℕ} {a : A} → Held w st → Went f w st 1 m a u → Went f w st 1 1 a u
 one-node {u = u} k h = record { is = h .is; depth = h .depth; lighter = drops u 1 k (h .depth); seen = h .seen; total = h .total }
 
--- a look whose answer was tested
+-- a test of the top whose result was tested
 pub at-true : {f : Check Bool} {w : List ℕ} {st u : State} {b : Bool} → b ≡ true → Went f w st (node b) (node b) b u → Went f w st 1 1 true u
 at-true {f} {w} {st} {u} q h = subst (λ (x : Bool). Went f w st (node x) (node x) x u) q h
 
@@ -100,7 +100,7 @@ module _ {w : List ℕ} {st : State} where
   pub moved-refused : {f : Check Done} {r : Moved} {x : Refusal} → r ≡ Moved.Refused x → Moving f w st r → Refuses f w st x
   moved-refused {f} q h = subst (Moving f w st) q h
 
-  -- a look whose answer counts for nothing
+  -- a test of the top whose result is not used
   pub past : (want : ℕ → Bool) {B : Type 0} {l m : ℕ} {b : Bool} {u : State} → Went (looked want) w st l m b u → (N : ℕ) (k : Check B) → and-then (C.try want (machine-of w N st)) (λ o. k) ≡ k (machine-of w N u)
   past want {B} h N k = sym (assoc (C.try want (machine-of w N st)) (λ o. ret (is-some o)) (λ x. k)) ∙ on h N (λ x. k)
 

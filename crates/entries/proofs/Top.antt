@@ -27,7 +27,7 @@ pub top : (w : List ℕ) (d t : ℕ) → d ≡ suc t → stack-of w d ≡ entry-
 unfolding stack-of
 top w d t q = ap (stack-of w) q
 
--- what is left of a stack is no more
+-- what is left of a stack is not more
 module _ (w : List ℕ) (d : ℕ) where
   sized-more : (e k : ℕ) → e ≡ k + d → Sized (stack-of w e) → Sized (stack-of w d)
   unfolding stack-of
@@ -48,7 +48,7 @@ module _ (w : List ℕ) (d : ℕ) where
   pub weigh-less : (e : ℕ) → d ≤ e → weigh (stack-of w d) ≤ weigh (stack-of w e)
   weigh-less e h = let q : e ≡ (e - d) + d = omega arith in weigh-more e (e - d) q
 
--- each entry that is gone was one node at least
+-- each entry that was removed was at least one node
 module _ (w : List ℕ) (d : ℕ) where
   drop-more : (e k : ℕ) → e ≡ k + d → Sized (stack-of w e) → weigh (stack-of w d) + k ≤ weigh (stack-of w e)
   unfolding stack-of weigh
@@ -67,7 +67,7 @@ drops {w} {st} u k h l =
 pub held-less : {w : List ℕ} {st : State} (u : State) → Held w st → u .depth ≤ st .depth → Held w u
 held-less {w} {st} u h l = record { inside = omega (arith, h .inside); sized = sized-less w (u .depth) (st .depth) l (h .sized); light = omega (arith, h .light, weigh-less w (u .depth) (st .depth) l) }
 
--- LOOKS AT THE TOP
+-- TESTS OF THE TOP
 module _ (want : ℕ → Bool) (s : Shapes) where
   try-empty : (es : List K.Entry) → es ≡ [] → M.try-from kind-of want es s ≡ ok none s
   unfolding M.try-from
@@ -131,7 +131,7 @@ module _ (w : List ℕ) (st : State) (want : ℕ → Bool) where
       total = refl;
     }
 
--- what was on top is one node at least
+-- what was on top is at least one node
 module _ (want : ℕ → Bool) (s : Shapes) where
   pop-size : (es : List K.Entry) (e : K.Entry) (t : Shapes) → Sized es → M.pop-from kind-of want es s ≡ ok e t → 1 ≤ e .size
   unfolding M.pop-from

@@ -1,4 +1,4 @@
--- What an answer says of a step of the definition, whatever N is.
+-- What a result says about a step of the definition, for any N.
 use mathlib.Core.Path.{_≡_}
 use mathlib.Core.Bool.{Bool, true, false}
 use mathlib.Core.List.{List}
@@ -24,8 +24,8 @@ use Rattle.entries.specs.declared.Moved.the-variants as Moved
 pub record EntryAt (w : List ℕ) (i : ℕ) (e : Entry) : Type 0 where
   pub is : entry-of e ≡ entry-at w i
 
--- The step comes to a, and to the machine of u: `least` entries or more are gone from the stack, and with them `size` nodes or more.
--- Nothing is charged or remembered
+-- The step gives a, and ends with the machine of u: `least` entries or more were removed from the
+-- stack, and with them `size` nodes or more. Nothing is charged or remembered
 pub record Went {A : Type 0} (f : Check A) (w : List ℕ) (st : State) (least size : ℕ) (a : A) (u : State) : Type 0 where
   pub is : (N : ℕ) → f (machine-of w N st) ≡ ok a (machine-of w N u)
   pub depth : u .depth + least ≤ st .depth
@@ -45,7 +45,8 @@ abbrev pub Popping : Check K.Entry → List ℕ → State → Popped → Type 0
 Popping f w st (Popped.Top e u) = Went f w st 1 (e .size) (entry-of e) u
 Popping f w st (Popped.Refused r) = Refuses f w st r
 
--- the protocol that an identifier and the context below it name; the identifier is gone already
+-- the protocol that is named by an identifier and the context below it; the identifier is already
+-- removed
 abbrev pub named-protocol : Check K.Entry
 named-protocol = C.context >>= λ c. ret (K.entry K.protocol (1 + c .size) 0)
 
@@ -58,14 +59,14 @@ abbrev pub node : Bool → ℕ
 node true = 1
 node false = 0
 
--- whether the top is of such a kind; it is taken off
+-- whether the top is of such a kind; it is removed
 abbrev pub looked : (ℕ → Bool) → Check Bool
 looked want = C.try want >>= λ o. ret (is-some o)
 
 abbrev pub Marking : Check Bool → List ℕ → State → Marked → Type 0
 Marking f w st r = Went f w st (node (r .taken)) (node (r .taken)) (r .taken) (r .next)
 
--- what is made for the state alone
+-- a step that only changes the state
 abbrev pub Moving : Check Done → List ℕ → State → Moved → Type 0
 Moving f w st (Moved.To u) = Went f w st 0 0 tt u
 Moving f w st (Moved.Refused r) = Refuses f w st r

@@ -1,5 +1,5 @@
--- How the check's machine lies in a workspace. Entry i stands in the three numbers from 3 × i on; the stack's entries begin at 0, the
--- remembered ones at N.
+-- How the machine of the check is stored in a workspace. Entry i is in the three numbers from 3 × i
+-- on. The entries of the stack begin at 0, the remembered ones at N.
 use mathlib.Core.List.{List, [], _∷_, _++_}
 use Prim.Native.Nat.{ℕ, zero, suc, _+_, _*_, _^_, _≤_}
 use lib.ListN.{length, getD}
@@ -31,15 +31,16 @@ unfoldable pub seen-of : List ℕ → (N : ℕ) → ℕ → List K.Entry
 seen-of w N zero = []
 seen-of w N (suc n) = seen-of w N n ++ (entry-at w (N + n) ∷ [])
 
--- the machine that lies in the workspace w with the state st
+-- the machine that the workspace w holds with the state st
 abbrev pub machine-of : List ℕ → (N : ℕ) → State → C.Shapes
 machine-of w N st = M.machine (budget-of (st .budget)) (stack-of w (st .depth)) (seen-of w N (st .seen)) (st .words)
 
--- the sizes on the stack together
+-- the sum of the sizes on the stack
 abbrev pub load : List ℕ → State → ℕ
 load w st = weigh (stack-of w (st .depth))
 
--- the stack lies in the workspace, each of its entries is one node at least, and they are not too many
+-- the stack is stored in the workspace, each of its entries is at least one node, and there are not
+-- too many
 pub record Held (w : List ℕ) (st : State) : Type 0 where
   pub inside : 3 * st .depth ≤ length w
   pub sized : Sized (stack-of w (st .depth))

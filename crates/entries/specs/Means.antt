@@ -1,4 +1,4 @@
--- What a take of the code is in the definition.
+-- The meaning of a take of the code in the definition.
 use Rattle.definition.specs.Shape as C
 use Rattle.kinds.specs.Wanted.{want-of}
 use Rattle.entries.specs.declared.Take.{Take}

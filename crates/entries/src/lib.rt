@@ -1,5 +1,6 @@
-// The entries of the shape check in a lent workspace, read only: what lies on the stack is taken off by a smaller depth.
-// Entry i stands in the three numbers from 3 * i on: kind, size and count.
+// The entries of the shape check in a lent workspace, which is only read here. An entry is taken
+// from the stack by decreasing the depth. Entry i is stored in the three numbers from 3 * i on:
+// kind, size and count.
 ghost use Prim.Native.Nat.{_+_, _*_, _≤_};
 ghost use lib.ListN.{length};
 ghost use Rattle.definition.specs.Machine as M;
@@ -17,7 +18,7 @@ pub struct Entry {
     pub count: u32,
 }
 
-// The counts, how many entries lie on the stack and are remembered, and how many words are known.
+// The counts, the numbers of entries on the stack and remembered, and the number of known words.
 pub struct State {
     pub budget: Budget,
     pub depth: usize,
@@ -25,14 +26,15 @@ pub struct State {
     pub words: usize,
 }
 
-// What an operator took so far: sizes together, what was counted, whether there was a signature.
+// What an operator has taken so far: the sum of the sizes, what was counted, and whether there was
+// a signature.
 pub struct Taken {
     pub size: usize,
     pub count: usize,
     pub signed: bool,
 }
 
-// The top entry and the state without it, or nothing where it is of another kind.
+// The top entry and the state without it, or nothing if it is of another kind.
 pub enum Tried {
     Top(Entry, State),
     Nothing,
@@ -60,7 +62,7 @@ pub enum Taking {
     Refused(Refusal),
 }
 
-// What a row can take, as the definition has it.
+// The takes of a row, as in the definition.
 pub enum Take {
     Wraps,
     Node(Want),
@@ -79,14 +81,14 @@ pub enum Take {
     Members,
     Arguments,
     Requirements,
-    // A letter that breaks a rule, judged late.
+    // A letter that breaks a rule. It is refused late.
     Refuses,
     PrintedAhead,
 }
 
 // The top
 
-// The entry at a place.
+// Returns the entry at a place.
 pub fn entry_at(ws: &[u32], i: usize) -> Entry
     requires { ⌜ 3 * i + 3 ≤ length (now ws) ⌝ }
     ensures { λ r. ⌜ EntryAt (now (ws .entry)) i r ⌝ }
@@ -98,7 +100,7 @@ pub fn entry_at(ws: &[u32], i: usize) -> Entry
     }
 }
 
-// The top, if it is of a kind that is wanted.
+// Takes the top entry, if its kind is wanted.
 pub fn try_take(ws: &[u32], st: State, want: Want) -> Tried
     requires { ⌜ Held (now ws) st ⌝ }
     ensures { λ r. ⌜ Trying (C.try (want-of want)) (now (ws .entry)) st r ⌝ }
@@ -117,7 +119,7 @@ pub fn try_take(ws: &[u32], st: State, want: Want) -> Tried
     Tried::Nothing
 }
 
-// The top, which must be of a kind that is wanted.
+// Takes the top entry, whose kind must be wanted.
 pub fn pop_if(ws: &[u32], st: State, want: Want) -> Popped
     requires { ⌜ Held (now ws) st ⌝ }
     ensures { λ r. ⌜ Popping (C.pop-if (want-of want)) (now (ws .entry)) st r ⌝ }
@@ -128,7 +130,7 @@ pub fn pop_if(ws: &[u32], st: State, want: Want) -> Popped
     }
 }
 
-// Takes the top off, if it is of a kind that is wanted.
+// Removes the top entry, if its kind is wanted.
 pub fn took(ws: &[u32], st: State, want: Want) -> Marked
     requires { ⌜ Held (now ws) st ⌝ }
     ensures { λ r. ⌜ Marking (looked (want-of want)) (now (ws .entry)) st r ⌝ }
@@ -142,7 +144,7 @@ pub fn took(ws: &[u32], st: State, want: Want) -> Marked
     }
 }
 
-// The top, of any kind.
+// Takes the top entry, of any kind.
 pub fn pop(ws: &[u32], st: State) -> Popped
     requires { ⌜ Held (now ws) st ⌝ }
     ensures { λ r. ⌜ Popping (M.pop C.kind-of) (now (ws .entry)) st r ⌝ }
@@ -150,9 +152,9 @@ pub fn pop(ws: &[u32], st: State) -> Popped
     pop_if(ws, st, Want::Anything)
 }
 
-// What stands for one entry
+// What can represent one entry
 
-// An identifier, whose name goes elsewhere.
+// Takes an identifier, whose name is used elsewhere.
 pub fn pop_name(ws: &[u32], st: State) -> Moved
     requires { ⌜ Held (now ws) st ⌝ }
     ensures { λ r. ⌜ Moving C.pop-name (now (ws .entry)) st r ⌝ }
@@ -169,7 +171,7 @@ pub fn pop_name(ws: &[u32], st: State) -> Moved
     }
 }
 
-// A context.
+// Takes a context.
 pub fn context(ws: &[u32], st: State) -> Popped
     requires { ⌜ Held (now ws) st ⌝ }
     ensures { λ r. ⌜ Popping C.context (now (ws .entry)) st r ⌝ }
@@ -195,7 +197,7 @@ pub fn context(ws: &[u32], st: State) -> Popped
     }
 }
 
-// The protocol that an identifier and the context below it name.
+// Takes the protocol that is named by an identifier and the context below it.
 fn named_protocol(ws: &[u32], st: State) -> Popped
     requires { ⌜ Held (now ws) st ⌝ }
     ensures { λ r. ⌜ Naming (now (ws .entry)) st r ⌝ }
@@ -213,7 +215,7 @@ fn named_protocol(ws: &[u32], st: State) -> Popped
     }
 }
 
-// A protocol.
+// Takes a protocol.
 pub fn protocol(ws: &[u32], st: State) -> Popped
     requires { ⌜ Held (now ws) st ⌝ }
     ensures { λ r. ⌜ Popping C.protocol (now (ws .entry)) st r ⌝ }
@@ -245,7 +247,7 @@ pub fn protocol(ws: &[u32], st: State) -> Popped
     }
 }
 
-// A side of a function type: the empty list stands for a tuple of none.
+// Takes one side of a function type. The empty list represents the empty tuple.
 pub fn side(ws: &[u32], st: State) -> Popped
     requires { ⌜ Held (now ws) st ⌝ }
     ensures { λ r. ⌜ Popping C.side (now (ws .entry)) st r ⌝ }

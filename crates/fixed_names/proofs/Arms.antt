@@ -1,4 +1,4 @@
--- What the arms of the two matches tell of their tables. Assumes nothing.
+-- What the arms of the two matches say about their tables. Assumes nothing.
 use mathlib.Core.Path.{_≡_}
 use Prim.Native.Nat.{ℕ, _≤_}
 use lib.ListN.{getD}

@@ -1,4 +1,4 @@
--- Each name stands at its place among the words. Assumes nothing.
+-- Each name is at its position among the words. Assumes nothing.
 use mathlib.Core.Path.{_≡_, refl}
 use mathlib.Core.Bool.{Bool, true, false, _&&_}
 use mathlib.Core.List.{List, [], _∷_, _++_}
@@ -15,7 +15,7 @@ use Rattle.output.specs.Sink.{low-bytes}
 use Rattle.fixed_names.specs.Fixed.{fixed-names, fixed, texts, numbered}
 use Rattle.fixed_names.specs.Words.{words, places, spelt, word-count, Named}
 
--- what the number p says of a name's place is right
+-- what the number p says about the position of a name is right
 abbrev Stands : ℕ → String → Type 0
 Stands p s = (spelt (p % 64) (drop (p / 64) words) ≡ bytes s) × (8 * (p / 64) + p % 64 ≤ 8 * word-count)
 
@@ -29,7 +29,7 @@ right [] (s ∷ ss) = false
 right (p ∷ ps) [] = false
 right (p ∷ ps) (s ∷ ss) = stands p s && right ps ss
 
--- and what it says of each; past the last there is nothing
+-- and what it says about each; past the last there is nothing
 nothing : Stands 0 ""
 unfolding opened₀ words spelt low-bytes
 nothing = (refl, omega arith)
@@ -64,7 +64,7 @@ pub numbered-text : (n : ℕ) → numbered (134 + n) ≡ getD texts n ""
 unfolding numbered fixed-names
 numbered-text n = getD-append-add fixed-names texts n ""
 
--- the names that operators of the machine use of themselves, by number
+-- the names that operators of the machine use, by number
 pub fixed-swift : fixed 0 ≡ "Swift"
 unfolding fixed fixed-names
 fixed-swift = refl

@@ -4,7 +4,7 @@ use Prim.Native.Nat.{ℕ}
 use Prim.Native.String.{String}
 use lib.ListN.{getD}
 
--- the texts that operators bring by themselves, in the order of their numbers
+-- the texts that operators supply, in the order of their numbers
 unfoldable pub fixed-names : List String
 fixed-names =
     -- 0: modules and a protocol
@@ -154,11 +154,11 @@ fixed-names =
     -- 133: of an associated type
     "associated type descriptor for " ∷ []
 
--- the name of that number; nothing past the last name
+-- the name with that number; nothing past the last name
 unfoldable pub fixed : ℕ → String
 fixed n = getD fixed-names n ""
 
--- the texts that the printer puts by itself, in the order of their numbers
+-- the texts that the printer supplies, in the order of their numbers
 unfoldable pub texts : List String
 texts =
     "." ∷
@@ -199,6 +199,6 @@ texts =
     " with unmangled suffix \"" ∷
     "\"" ∷ []
 
--- both in one row: the texts' numbers go on from the last name's
+-- both in one row: the numbers of the texts continue after the last name's
 unfoldable pub numbered : ℕ → String
 numbered n = getD (fixed-names ++ texts) n ""

@@ -1,4 +1,4 @@
--- The names as words of eight bytes, and the place of each among them. Assumes nothing.
+-- The names as words of eight bytes, and the position of each among them. Assumes nothing.
 use mathlib.Core.Path.{_≡_}
 use mathlib.Core.List.{List, [], _∷_, _++_}
 use Prim.Native.Nat.{ℕ, _+_, _-_, _*_, _≤_, min}
@@ -8,7 +8,7 @@ use Rattle.output.specs.Sink.{low-bytes}
 use Rattle.fixed_names.specs.Fixed.{numbered}
 use Rattle.fixed_names.specs.declared.Part.{Part}
 
--- a line a name
+-- one line for each name
 abbrev pub word-table : List ℕ
 word-table =
     499934394195 ∷
@@ -189,7 +189,7 @@ words = word-table
 abbrev pub word-count : ℕ
 word-count = 458
 
--- of each name 64 times the place of its first word, and its length
+-- for each name, 64 times the index of its first word, plus its length
 abbrev pub place-table : List ℕ
 place-table =
     5 ∷ 67 ∷ 143 ∷ 265 ∷ 389 ∷ 481 ∷ 772 ∷ 842 ∷ 966 ∷ 1029 ∷
@@ -219,7 +219,7 @@ unfoldable pub spelt : ℕ → List ℕ → Name
 spelt n [] = []
 spelt n (w ∷ ws) = low-bytes (min n 8) w ++ spelt (n - 8) ws
 
--- the part p of the words is the name of the number n
+-- the part p of the words is the name with number n
 pub record Named (n : ℕ) (p : Part) : Type 0 where
   pub is : spelt (p .len) (drop (p .first) words) ≡ bytes (numbered n)
   pub inside : 8 * p .first + p .len ≤ 8 * word-count

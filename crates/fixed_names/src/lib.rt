@@ -1,17 +1,19 @@
-// The fixed names, every text that an operator brings by itself, and behind them the texts that the printer puts by itself: 171 of them, as words of
-// eight bytes. What stands at a number is found by a `match`: a constant array is copied at each use.
+// The fixed names, which are all the texts that operators supply, followed by the texts that the
+// printer supplies: 171 of them, as words of eight bytes. An item is found by its number with a
+// `match`, because a constant array is copied at each use.
 ghost use mathlib.Core.Path.{_≡_};
 ghost use Prim.Native.Nat.{_≤_, _<_};
 ghost use lib.ListN.{getD};
 ghost use Rattle.fixed_names.specs.Words.{words, places, Named};
 
-// A part of the words: the place of its first word, and its length in bytes.
+// A part of the words: the index of its first word, and its length in bytes.
 pub struct Part {
     pub first: usize,
     pub len: usize,
 }
 
-// A table is cut into functions of 64 arms: what the prover makes of a match grows with the square of its arms.
+// A table is split into functions of 64 arms, because what the prover makes of a match grows with
+// the square of the number of its arms.
 
 // The words 0 to 63.
 fn word_0(i: usize) -> u64
@@ -714,7 +716,8 @@ fn word_448(i: usize) -> u64
     }
 }
 
-// The words of all names, one name behind the other: the first byte is the least, and a name's last word is filled with zeros.
+// The words of all names, one name after another. The first byte is the least significant, and the
+// last word of a name is filled with zeros.
 pub fn word(i: usize) -> u64
     ensures { λ r. ⌜ r ≡ getD words i 0 ⌝ }
 {
@@ -943,7 +946,8 @@ fn place_128(n: usize) -> usize
     }
 }
 
-// Where the name of that number stands, in one number: 64 times the place of its first word, and its length.
+// Returns the position of name n in one number: 64 times the index of its first word, plus its
+// length.
 fn place(n: usize) -> usize
     ensures { λ r. ⌜ r ≡ getD places n 0 ⌝ }
 {
@@ -959,7 +963,7 @@ fn place(n: usize) -> usize
     place_128(n)
 }
 
-// Where the name of that number stands; nothing past the last name.
+// Returns the position of name n, or an empty part past the last name.
 pub fn fixed_name(n: usize) -> Part
     ensures { λ r. ⌜ Named n r ⌝ }
 {

@@ -296,7 +296,7 @@ module _ (nm : Names) (ws : List ℕ) (p : ℕ) where
       unfolding form-of
       form-other-accessor e f = plain 21 e (differ 21 18 tt) (sym (ap (λ (x : Bool). if x then 45 else 21) (ne-eqb (at ws (at ws p 4) 0) 20 (λ (z : at ws (at ws p 4) 0 ≡ 20). f (below-is ∙ z))))) (omega arith)
 
-    -- a kind that has no form besides
+    -- a kind that has no additional form
     other : k < 46 → (k ≡ 12 → ⊥) → (k ≡ 15 → ⊥) → (k ≡ 18 → ⊥) → (k ≡ 21 → ⊥) → (k ≡ 23 → ⊥) → (k ≡ 26 → ⊥) → FormIs nm ws p k
     unfolding form-of
     other l a b c d e f =

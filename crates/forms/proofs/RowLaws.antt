@@ -1,4 +1,4 @@
--- The row of a record has the text of the tree that lies there. Assumes nothing.
+-- The row of a record has the text of the tree that is stored there. Assumes nothing.
 use mathlib.Core.Path.{_≡_, refl, sym, ap, subst, _∙_}
 use mathlib.Core.Bool.{Bool, true, false, _&&_, not}
 use mathlib.Core.List.{List, [], _++_, append-assoc}

@@ -16,7 +16,7 @@ use Rattle.shown_labels.specs.Pieces.{Prints, Pieces, form-of}
 pub record Standard (nm : Names) (ws : List ℕ) (p : ℕ) (name : Name) (r : Bool) : Type 0 where
   pub each : (b : Node) (s : String) → Lies (Named nm) b ws p → bytes s ≡ name → r ≡ standard b s
 
--- the sugar of a generic type: 0 none, 1 that of Optional, 2 of Array, 3 of Dictionary
+-- the sugar of a generic type: 0 none, 1 Optional, 2 Array, 3 Dictionary
 pub record SugarIs (b : Node) (args : Nodes) (r : ℕ) : Type 0 where
   pub few : r < 4
   pub no-sugar : r ≡ 0 → T (not (sugared b args))
@@ -34,6 +34,6 @@ pub record FormIs (nm : Names) (ws : List ℕ) (p r : ℕ) : Type 0 where
   pub is : r ≡ form-of (at ws p 0) (at ws p) (at ws (at ws p 4) 0) sugar
   pub small : r < 46
 
--- the row of the record at p has the text of every tree that lies there
+-- the row of the record at p has the text of every tree that is stored there
 pub record Rowed (nm : Names) (ws : List ℕ) (p row : ℕ) : Type 0 where
   pub each : (s : Name) → Prints nm ws p s → Pieces nm ws p row s

@@ -1,4 +1,4 @@
-// The form of a record, with its sugar, and the row of pieces that it prints.
+// The form of a record, with its sugar, and the row of pieces that is printed for it.
 ghost use mathlib.Core.Path.{_≡_};
 ghost use mathlib.Core.Bool.{false};
 ghost use Prim.Native.Nat.{_+_, _<_};
@@ -12,7 +12,8 @@ use naming::named_is;
 use records::field;
 use shown_labels::get;
 
-// Whether the base at place p is the standard type of a name: a nominal type of that name in a module named Swift.
+// Whether the base at place p is the standard type of a name: a nominal type of that name in a
+// module named Swift.
 fn standard(
     ws: &[u32],
     text: &[u8],
@@ -48,7 +49,7 @@ fn standard(
     named_is(text, starts, lengths, known, module, 0, b"Swift")
 }
 
-// The sugar of the generic type at place p: 0 none, 1 that of Optional, 2 of Array, 3 of Dictionary.
+// The sugar of the generic type at place p: 0 none, 1 Optional, 2 Array, 3 Dictionary.
 fn sugar(
     ws: &[u32],
     text: &[u8],
@@ -82,7 +83,7 @@ fn sugar(
     0
 }
 
-// One number where n is 0, and another where it is not.
+// Returns `zero` if n is 0, and `other` if it is not.
 fn zero_or(n: usize, zero: usize, other: usize) -> usize
     ensures { λ r. ⌜ r ≡ zero-or n zero other ⌝ }
 {
@@ -92,7 +93,7 @@ fn zero_or(n: usize, zero: usize, other: usize) -> usize
     other
 }
 
-// The form of a record whose words are fixed, have a number, or are of two children.
+// The form of a record whose words are fixed, contain a number, or belong to two children.
 fn record_form(form: usize) -> usize
     ensures { λ r. ⌜ r ≡ record-form form ⌝ }
 {
@@ -154,8 +155,9 @@ fn form(
     kind
 }
 
-// The row of a form. Each two hexadecimal digits are a piece's code, the first the last two: 0b to 0f a name, 13 to 17 a child, 18 to 29 what
-// specs/Pieces.antt of `shown_labels` says, from 40 on a fixed text, from 80 on a piece of the record in field 4.
+// The row of a form. Each two hexadecimal digits are the code of a piece; the last two digits are
+// the first piece. 0b to 0f: a name. 13 to 17: a child. 18 to 29: see specs/RowTexts.antt of
+// `print_labels`. 40 and above: a fixed text. 80 and above: a piece of the record in field 4.
 fn row(form: usize) -> usize
     requires { ⌜ form < 46 ⌝ }
     ensures { λ r. ⌜ r ≡ getD rows form 0 ⌝ }

@@ -1,4 +1,5 @@
--- The loop of specs/Rounds.antt is the definition's, over words as a table and over words as a count. Assumes nothing.
+-- The loop of specs/Rounds.antt is the definition's, with words as a table and with words as a
+-- count. Assumes nothing.
 use mathlib.Core.Path.{_≡_, refl, sym, ap, _∙_}
 use mathlib.Core.Bool.{Bool, true, false, _&&_, not}
 use mathlib.Core.List.{List, [], _∷_, _++_}
@@ -23,7 +24,7 @@ map-out f (ok a u) = ok (f a) u
 map-out f (refused r) = refused r
 
 module _ {B D : Type 0} (g : B → D) where
-  -- the same step, and then steps alike
+  -- the same step, and then alike steps
   then-alike : {A : Type 0} (o : Out Text A) (k′ : A → Lex D) (k : A → Lex B) → ((a : A) (u : Text) → k′ a u ≡ map-out g (k a u)) → and-then o k′ ≡ map-out g (and-then o k)
   then-alike (ok a u) k′ k h = h a u
   then-alike (refused r) k′ k h = refl
@@ -40,7 +41,7 @@ module _ {B D : Type 0} (g : B → D) where
   either true x x′ y y′ h k = h
   either false x x′ y y′ h k = k
 
--- ONE ROUND, behind its letters
+-- ONE ROUND, after its letters
 module _ {S R : Type 0} (count : S → ℕ) (note : Text → S → S) (g : R → Got S) (punycoded : Bool) (words : S) (again : S → Bool → Lex (Got S)) where
   closing-alike : (e m : Bool) (u : Text) (done : R) (cont : Name → Lex R) → got e words ≡ g done →
       ((slice : Name) (v : Text) → after count note punycoded words again (takes e m slice) v ≡ map-out g (cont slice v)) →
@@ -105,7 +106,7 @@ table-got r = got (is-empty (r .name)) (r .words)
 abbrev spelled-as : W.Spelled → C.Spelled
 spelled-as s = C.spelled (is-empty (s .name)) (s .more)
 
--- a name with a word behind it
+-- a name followed by a word
 not-empty : (a b : Name) → 2 ≤ length b → is-empty (a ++ b) ≡ false
 unfolding is-empty
 not-empty [] [] h = absurd (omega arith)

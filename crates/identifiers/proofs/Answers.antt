@@ -1,4 +1,4 @@
--- From the rounds to the answers of `identifier` and `identifier_count`. Assumes nothing.
+-- From the rounds to the results of `identifier` and `identifier_count`. Assumes nothing.
 use mathlib.Core.Path.{_≡_, ap, _∙_, subst}
 use mathlib.Core.Bool.{Bool, true, false, not}
 use mathlib.Core.List.{List, [], _∷_, _++_}
@@ -24,7 +24,7 @@ use Rattle.identifiers.specs.declared.CountRead.the-variants as CountRea
 use Rattle.words.proofs.Keeping.{table-length}
 use Rattle.identifiers.proofs.Alike.{map-out, table-got, count-got}
 
--- THE TABLE IS WELL KEPT
+-- THE TABLE IS VALID
 long-snoc : (ws : List Name) (w : Name) → Long ws → 2 ≤ length w → Long (ws ++ (w ∷ []))
 long-snoc [] w l h = (h, tt)
 long-snoc (x ∷ ws) w l h = (l .0, long-snoc ws w (l .1) h)
@@ -58,7 +58,7 @@ module _ {S : Type 0} (count : S → ℕ) (note : Text → S → S) (words : S) 
 pub fuel-enough : (text : Text) (from at : ℕ) → from ≤ at → length text < at + suc (length (drop from text))
 fuel-enough text from at h = rw (length-drop from text) (omega arith)
 
--- WHAT THE ANSWERS SAY
+-- WHAT THE RESULTS SAY
 module _ (text : Text) {from at : ℕ} (l : from ≤ at) where
   pub answered : (w : Words) (out : Out Text W.Identified) {o : Out Text (Got (List Name))} → map-out table-got out ≡ o → (r : NameRead) → Got-table o text at r w → Answered out text from r w
   answered w (ok i u) e (NameRead.Read c) h =
@@ -93,7 +93,7 @@ module _ (text : Text) {from at : ℕ} (l : from ≤ at) where
   counted (refused n) e (CountRead.Refused f) h = let k = e ∙ h in cc
 
 -- FOR CALLERS
--- what the answer says that a match took apart
+-- what the result says that a match took apart
 module _ (text : Text) (from : ℕ) where
   pub identifier-read : {out : Out Text W.Identified} {r : Identified} {c : Cursor} → r .read ≡ NameRead.Read c → Identifies out text from r → Reads out text from (r .words) c
   identifier-read {out} {r} e h = subst (λ (k : NameRead). Answered out text from k (r .words)) e (h .answer)

@@ -19,7 +19,7 @@ use Rattle.identifiers.specs.Answers.{NoZero, Reaches, Lies}
 use Rattle.identifiers.proofs.Steps.{closing-takes}
 use Rattle.identifiers.proofs.Rounds.{running-first, running-last, running-refused}
 
--- a byte that is not taken stays
+-- a byte that is not taken remains
 flag-of : Out Text Bool → Bool
 flag-of (ok b u) = b
 flag-of (refused n) = true
@@ -64,7 +64,7 @@ unfolding is-empty
 some-name [] h = absurd (omega arith)
 some-name (b ∷ name) h = refl
 
--- no `0` stands where the identifier begins: it is the literal, and its words are noted
+-- the identifier does not begin with `0`: it is the literal, and its words are noted
 module _ (text : Text) (at : ℕ) (l : at < length text) (z : is "0" (getD text at 0) ≡ false) (words : List Name) where
   pub one-literal : {a b : ℕ} → Lies (literal false (drop at text)) (λ s. s) text at a b → W.identifier words (drop at text) ≡ ok (W.identified (part text a b) (W.note-words (part text a b) words)) (drop b text)
   unfolding W.identifier W.identifier-from

@@ -17,7 +17,7 @@ use Rattle.identifiers.specs.Rounds.{Round, closes, takes, round, Got, g
 long : (text : Text) (a b : ℕ) → a < b → b ≤ length text → 0 < length (part text a b)
 long text a b l h = rw (part-length text a b h) (omega arith)
 
--- a name with a byte or more behind it is not empty
+-- a name followed by one byte or more is not empty
 not-empty : (e : Bool) (slice : Name) → 0 < length slice → (e && is-empty slice) ≡ false
 unfolding is-empty
 not-empty e [] h = absurd (omega arith)
@@ -34,7 +34,7 @@ module _ {S : Type 0} (count : S → ℕ) (note : Text → S → S) (punycoded :
       ap (λ (n : ℕ). and-then (round (count words) subs punycoded empty t) (after count note punycoded words (rounds count note n true punycoded))) z
 
   module _ (text : Text) where
-    -- the outcome `out` is that of the rounds from here on, with fuel enough
+    -- the outcome `out` is that of the rounds from here on, with enough fuel
     pub record Going (out : Out Text (Got S)) (words : S) (subs empty : Bool) (at : ℕ) : Type 0 where
       pub fuel : ℕ
       pub enough : length text < at + fuel
@@ -84,7 +84,7 @@ module _ {S : Type 0} (count : S → ℕ) (note : Text → S → S) (punycoded :
     running-first first subs from h = record { inside = h; onward = omega arith; same = λ f e. record { fuel = f; enough = e; same = refl } }
 
     module _ {first : S} {subs : Bool} {from at : ℕ} {words : S} {more empty : Bool} (g : Running first subs from at words more empty) {known : ℕ} (k : known ≡ count words) where
-      -- a literal with letters behind it
+      -- a literal after which letters may follow
       pub running-next : {e m : Bool} {a b : ℕ} {words′ : S} → m ≡ true → Lies (round known more punycoded empty (drop at text)) (takes e m) text at a b →
           words′ ≡ known-after note punycoded (part text a b) words → Running first subs from b words′ true false
       running-next {a = a} {b = b} z l w = record {

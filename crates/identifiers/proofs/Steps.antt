@@ -1,4 +1,5 @@
--- The steps of an identifier at a place of a text: letters, literals, the closing `0`. Assumes nothing.
+-- The steps of an identifier at a place of a text: letters, literals, the closing `0`. Assumes
+-- nothing.
 use mathlib.Core.Path.{_≡_, refl, sym, ap, subst, _∙_}
 use mathlib.Core.Bool.{Bool, true, false, _&&_}
 use Prim.Native.Nat.{ℕ, _+_, _-_, _≤_, _<_}
@@ -123,7 +124,7 @@ pieced-is text e l (Piece.Closed b c) h = record { is = e ∙ h .is; inside = h 
 pieced-is text e l (Piece.Literal b m x y) h = record { is = e ∙ h .is; onward = omega arith; some = h .some; inside = h .inside }
 pieced-is text e l (Piece.Refused f) h = e ∙ h
 
--- what the answer says that a match took apart
+-- what the result says that a match took apart
 module _ (text : Text) (from : ℕ) where
   pub extent-read : {o : Out Text Name} {r : Extent} {a b : ℕ} → r ≡ Extent.Read a b → Extends o text from r → Lies o (λ s. s) text from a b
   extent-read {o} e h = subst (Extends o text from) e h

@@ -1,5 +1,6 @@
--- What the answers over a cursor say of the definition's outcomes. Assumes nothing.
--- Every relation has the arguments: the outcome on the text from the cursor on, the whole text, the cursor's place, the answer.
+-- What the results over a cursor say about the definition's outcomes. Assumes nothing. Every
+-- relation has the arguments: the outcome on the text from the cursor on, the whole text, the place
+-- of the cursor, the result.
 use mathlib.Core.Path.{_≡_}
 use mathlib.Core.Bool.{false}
 use mathlib.Core.List.{List}
@@ -26,20 +27,22 @@ use Rattle.identifiers.specs.declared.Identified.{Identified}
 use Rattle.identifiers.specs.declared.CountRead.{CountRead}
 use Rattle.identifiers.specs.declared.CountRead.the-variants as CountRead
 
--- the outcome is the value a, and c stands in the text where the outcome's rest begins, at `least` or later
+-- the outcome is the value a, and c is the place in the text where the outcome's rest begins,
+-- `least` or later
 pub record Reaches {A : Type 0} (out : Out Text A) (a : A) (text : Text) (least : ℕ) (c : Cursor) : Type 0 where
   pub is : out ≡ ok a (drop (c .at) text)
   pub inside : c .at ≤ length text
   pub onward : least ≤ c .at
 
--- the outcome is what f makes of the bytes from one place to another, which are one or more, and its rest is what follows them
+-- the outcome is f of the bytes from one place to another, which are one or more, and its rest is
+-- what follows them
 pub record Lies {A : Type 0} (out : Out Text A) (f : Name → A) (text : Text) (least from to : ℕ) : Type 0 where
   pub is : out ≡ ok (f (part text from to)) (drop to text)
   pub onward : least ≤ from
   pub some : from < to
   pub inside : to ≤ length text
 
--- no `0` stands at a place
+-- the byte at a place is not `0`
 pub record NoZero (text : Text) (at : ℕ) : Type 0 where
   pub is : next-if (is "0") (drop at text) ≡ ok false (drop at text)
 
@@ -67,7 +70,7 @@ Got-count out text from (CountRead.Read n c) = Reaches out (got false n) text (f
 Got-count out text from (CountRead.Refused f) = out ≡ refused (number f)
 
 -- AN IDENTIFIER
--- it is read: some name, with the words of the table w behind it
+-- it is read: some name, after which the words are those of the table w
 pub record Reads (out : Out Text W.Identified) (text : Text) (from : ℕ) (w : Words) (c : Cursor) : Type 0 where
   pub name : Name
   pub is : out ≡ ok (W.identified name (table text w)) (drop (c .at) text)
@@ -78,12 +81,12 @@ abbrev pub Answered : Out Text W.Identified → Text → ℕ → NameRead → Wo
 Answered out text from (NameRead.Read c) w = Reads out text from w c
 Answered out text from (NameRead.Refused f) w = out ≡ refused (number f)
 
--- the answer to an identifier; whether it is read or refused, the table lies inside the text
+-- the result of an identifier; whether it is read or refused, the table is inside the text
 pub record Identifies (out : Out Text W.Identified) (text : Text) (from : ℕ) (r : Identified) : Type 0 where
   pub answer : Answered out text from (r .read) (r .words)
   pub fitting : Fitting text (r .words)
 
--- the answer where words are a count
+-- the result where words are a count
 pub record Counts (out : Out Text C.Identified) (text : Text) (from n : ℕ) (c : Cursor) : Type 0 where
   pub is : out ≡ ok (C.identified false n) (drop (c .at) text)
   pub onward : from < c .at

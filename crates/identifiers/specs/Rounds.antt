@@ -1,5 +1,6 @@
--- The loop of an identifier, over words that are known as a table or as a count: both of the definition's loops are this one
--- (proofs/Alike.antt). The contracts of the functions inside this crate speak of it; those of `identifier` and `identifier_count` do not.
+-- The loop of an identifier, over words that are known as a table or as a count. Both of the
+-- definition's loops are this one (proofs/Alike.antt). The contracts of the functions inside this
+-- crate use it; those of `identifier` and `identifier_count` do not.
 use mathlib.Core.Bool.{Bool, true, false, _&&_, not}
 use Prim.Native.Nat.{ℕ, zero, suc}
 use lib.ListN.{length}
@@ -8,7 +9,8 @@ use Rattle.definition.specs.Text.{Text, Lex, next-if, well-formed}
 use Rattle.definition.specs.Words.{take-bytes, literal, is-empty}
 use Rattle.definition.specs.Check.{Spelled, spelled, word-letters}
 
--- What one round finds behind its letters: the closing `0`, or a literal. Whether the name before it is empty, and whether letters may follow
+-- What one round finds after its letters: the closing `0`, or a literal; whether the name before it
+-- is empty, and whether letters may follow
 pub data Round : Type 0 where
   closes : Bool → Round
   takes : (empty more : Bool) → Name → Round
@@ -28,7 +30,7 @@ round known subs punycoded empty = do
   s ← letters known subs empty
   closing punycoded (s .empty) (s .more)
 
--- the rest of `literal`, behind its count and the `_`
+-- the rest of `literal`, after its count and the `_`
 abbrev pub whole-slice : ℕ → Lex Name
 whole-slice n = do
   slice ← take-bytes n
@@ -47,7 +49,7 @@ got e s = record { empty = e; words = s }
 abbrev pub finish : {S : Type 0} → Got S → Lex (Got S)
 finish r = unless 9 (not (r .empty)) >> ret r
 
--- the words known behind a literal: punycode has none
+-- the words known after a literal: punycode has none
 abbrev pub known-after : {S : Type 0} → (Text → S → S) → Bool → Name → S → S
 known-after note punycoded slice words = if punycoded then words else note slice words
 

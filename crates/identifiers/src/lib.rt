@@ -1,4 +1,4 @@
-// Identifiers, over the words as a table or as a count. The whole text is well-formed.
+// Identifiers, with the words as a table or as a count. The whole text is well-formed.
 ghost use mathlib.Core.Path.{_≡_};
 ghost use mathlib.Core.Bool.{true, false};
 ghost use Prim.Native.Nat.{ℕ, _+_, _-_, _≤_, _<_};
@@ -21,20 +21,21 @@ use words::Words;
 use words::count_words;
 use words::note_words;
 
-// What words by letter come to: whether the name is empty, whether letters may follow, and the next cursor.
+// The result of word letters: whether the name is empty, whether letters may follow, and the next
+// cursor.
 enum Letters {
     Read(bool, bool, Cursor),
     Refused(Refusal),
 }
 
-// Where the bytes of a literal lie: text[from..to].
+// The position of the bytes of a literal: text[from..to].
 pub enum Extent {
     Read(usize, usize),
     Refused(Refusal),
 }
 
-// What one round of an identifier comes to: the closing `0`, with whether the name is empty; or a literal, with whether the name
-// before it is empty, whether letters may follow, and where it lies.
+// The result of one round of an identifier: the closing `0`, with whether the name is empty; or a
+// literal, with whether the name before it is empty, whether letters may follow, and its position.
 enum Piece {
     Closed(bool, Cursor),
     Literal(bool, bool, usize, usize),
@@ -57,7 +58,8 @@ pub enum CountRead {
     Refused(Refusal),
 }
 
-// Words by letter: lower case letters, and a capital as the last. `first`: the name before them is empty.
+// Reads word letters: lower case letters, and a capital as the last. `first`: the name before them
+// is empty.
 fn word_letters(text: &[u8], c: Cursor, known: usize, first: bool) -> Letters
     requires { ⌜ c .at ≤ length (now text) ⌝ }
     ensures { λ r. ⌜ Lettered (C.word-letters known first (drop (c .at) (now (text .entry)))) (now (text .entry)) (c .at) r ⌝ }
@@ -84,7 +86,7 @@ fn word_letters(text: &[u8], c: Cursor, known: usize, first: bool) -> Letters
     Letters::Read(empty, true, Cursor { at })
 }
 
-// The next n bytes, if they are there and well-formed.
+// Returns the next n bytes, if they exist and are well-formed.
 fn bytes_of(text: &[u8], c: Cursor, n: usize) -> Extent
     requires { ⌜ (c .at ≤ length (now text)) × (0 < n) × (Text.well-formed (now text) ≡ true) ⌝ }
     ensures { λ r. ⌜ Extends (whole-slice n (drop (c .at) (now (text .entry)))) (now (text .entry)) (c .at) r ⌝ }
@@ -100,7 +102,7 @@ fn bytes_of(text: &[u8], c: Cursor, n: usize) -> Extent
     Extent::Refused(Refusal::Spelling)
 }
 
-// A length and that many bytes.
+// Reads a length and that many bytes.
 pub fn literal(text: &[u8], c: Cursor, punycoded: bool) -> Extent
     requires { ⌜ Text.well-formed (now text) ≡ true ⌝ }
     ensures { λ r. ⌜ Extends (W.literal punycoded (drop (c .at) (now (text .entry)))) (now (text .entry)) (c .at) r ⌝ }
@@ -121,7 +123,7 @@ pub fn literal(text: &[u8], c: Cursor, punycoded: bool) -> Extent
     }
 }
 
-// The closing `0`, or a literal.
+// Reads the closing `0` or a literal.
 fn close_or_take(text: &[u8], c: Cursor, punycoded: bool, empty: bool, more: bool) -> Piece
     requires { ⌜ (c .at ≤ length (now text)) × (Text.well-formed (now text) ≡ true) ⌝ }
     ensures { λ r. ⌜ Pieced (closing punycoded empty more (drop (c .at) (now (text .entry)))) (now (text .entry)) (c .at) r ⌝ }
@@ -138,7 +140,7 @@ fn close_or_take(text: &[u8], c: Cursor, punycoded: bool, empty: bool, more: boo
     }
 }
 
-// One round of an identifier, where so many words are known.
+// Reads one round of an identifier, where `known` words are known.
 fn round_of(text: &[u8], c: Cursor, known: usize, subs: bool, punycoded: bool, empty: bool) -> Piece
     requires { ⌜ (c .at ≤ length (now text)) × (Text.well-formed (now text) ≡ true) ⌝ }
     ensures { λ r. ⌜ Pieced (round known subs punycoded empty (drop (c .at) (now (text .entry)))) (now (text .entry)) (c .at) r ⌝ }
@@ -152,7 +154,7 @@ fn round_of(text: &[u8], c: Cursor, known: usize, subs: bool, punycoded: bool, e
     }
 }
 
-// The table behind a literal: a punycode name has no words.
+// The table after a literal. A punycode name has no words.
 fn noted(text: &[u8], from: usize, to: usize, punycoded: bool, w: Words) -> Words
     requires { ⌜ (from ≤ to) × ((to ≤ length (now text)) × ((length (now text) ≤ 65535) × Fitting (now text) w)) ⌝ }
     ensures { λ r. ⌜ Holds (now (text .entry)) (known-after W.note-words punycoded (part (now (text .entry)) from to) (table (now (text .entry)) w)) w r ⌝ }
@@ -163,7 +165,7 @@ fn noted(text: &[u8], from: usize, to: usize, punycoded: bool, w: Words) -> Word
     note_words(text, from, to, w)
 }
 
-// The rounds of an identifier, from the one at the cursor to the last.
+// Reads the rounds of an identifier, from the one at the cursor to the last.
 fn rounds_of(text: &[u8], c: Cursor, w: Words, subs: bool, punycoded: bool) -> Identified
     requires { ⌜ (c .at ≤ length (now text)) × ((length (now text) ≤ 65535) × Fitting (now text) w) × (Text.well-formed (now text) ≡ true) ⌝ }
     ensures { λ r. ⌜ ((fuel : ℕ) → length (now (text .entry)) < c .at + fuel → Got-table (named length W.note-words fuel subs punycoded (table (now (text .entry)) w) true (drop (c .at) (now (text .entry)))) (now (text .entry)) (c .at) (r .read) (r .words)) × Fitting (now (text .entry)) (r .words) ⌝ }
@@ -209,7 +211,7 @@ fn rounds_of(text: &[u8], c: Cursor, w: Words, subs: bool, punycoded: bool) -> I
     }
 }
 
-// An identifier that does not begin with `0`: one literal.
+// Reads an identifier that does not begin with `0`: one literal.
 fn plain(text: &[u8], c: Cursor, w: Words) -> Identified
     requires { ⌜ (c .at ≤ length (now text)) × (length (now text) ≤ 65535) × Fitting (now text) w × NoZero (now text) (c .at) × (Text.well-formed (now text) ≡ true) ⌝ }
     ensures { λ r. ⌜ ((fuel : ℕ) → length (now (text .entry)) < c .at + fuel → Got-table (named length W.note-words fuel false false (table (now (text .entry)) w) true (drop (c .at) (now (text .entry)))) (now (text .entry)) (c .at) (r .read) (r .words)) × Fitting (now (text .entry)) (r .words) ⌝ }
@@ -229,7 +231,7 @@ fn plain(text: &[u8], c: Cursor, w: Words) -> Identified
     }
 }
 
-// An identifier: `00` before it marks punycode, `0` alone allows words by letter.
+// Reads an identifier. `00` before it marks punycode, `0` alone allows word letters.
 pub fn identifier(text: &[u8], c: Cursor, w: Words) -> Identified
     requires { ⌜ (c .at ≤ length (now text)) × ((length (now text) ≤ 65535) × Fitting (now text) w) × (Text.well-formed (now text) ≡ true) ⌝ }
     ensures { λ r. ⌜ Identifies (W.identifier (table (now (text .entry)) w) (drop (c .at) (now (text .entry)))) (now (text .entry)) (c .at) r ⌝ }
@@ -246,7 +248,7 @@ pub fn identifier(text: &[u8], c: Cursor, w: Words) -> Identified
     rounds_of(text, after, w, !punycoded, punycoded)
 }
 
-// The same, where words are a count
+// The same, with the words as a count
 
 fn noted_count(text: &[u8], from: usize, to: usize, punycoded: bool, count: usize) -> usize
     requires { ⌜ (from ≤ to) × ((to ≤ length (now text)) × (length (now text) ≤ 65535)) ⌝ }
@@ -302,7 +304,7 @@ fn plain_count(text: &[u8], c: Cursor, count: usize) -> CountRead
     }
 }
 
-// An identifier, and how many words are known after it.
+// Reads an identifier, and returns how many words are known after it.
 pub fn identifier_count(text: &[u8], c: Cursor, count: usize) -> CountRead
     requires { ⌜ (c .at ≤ length (now text)) × (length (now text) ≤ 65535) × (Text.well-formed (now text) ≡ true) ⌝ }
     ensures { λ r. ⌜ Counted (C.identifier count (drop (c .at) (now (text .entry)))) (now (text .entry)) (c .at) r ⌝ }

@@ -1,4 +1,4 @@
--- Kinds that follow each other are a range. Assumes nothing.
+-- Kinds that follow each other form a range. Assumes nothing.
 use mathlib.Core.Path.{_≡_, refl, sym, ap, _∙_, subst}
 use mathlib.Core.Bool.{Bool, true, false, _||_, or-assoc}
 use mathlib.Core.List.{List, [], _∷_, _++_}

@@ -1,4 +1,4 @@
--- Which kinds a wish takes.
+-- The kinds that a want accepts.
 use mathlib.Core.Bool.{Bool, true}
 use Prim.Native.Nat.{ℕ}
 use lib.Dec.{eqb}

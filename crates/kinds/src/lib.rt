@@ -3,7 +3,7 @@ ghost use mathlib.Core.Path.{_≡_};
 ghost use Rattle.definition.specs.Kind as K;
 ghost use Rattle.kinds.specs.Wanted.{want-of};
 
-// The kinds that can be wanted on top.
+// The kinds that can be wanted on top of the stack.
 pub enum Want {
     Anything,
     Type,

@@ -1,4 +1,4 @@
--- How many labels a type asks for.
+-- The number of labels that a type requires.
 use mathlib.Core.Path.{_≡_, refl, sym, _∙_, subst}
 use mathlib.Core.Bool.{Bool, true, false}
 use mathlib.Core.List.{List}
@@ -16,7 +16,7 @@ use Rattle.records.specs.Lies.{at, Child, Body, Lies}
 use Rattle.records.specs.Holds.{Names, Named}
 use Rattle.labels.specs.LabelsOf.{Treed}
 
--- the type under a signature stands in field 4
+-- the type under a signature is in field 4
 inner-child : (nm : Names) (f : ℕ → ℕ) (w : List ℕ) (p : ℕ) (x : Node) → T (eqb (kind x) K.generic-type) → Body (Named nm) x f w p → Child f p 4 (λ q. Lies (Named nm) (the-inner x) w q)
 unfolding kind nominal-kind view inner-of the-inner
 inner-child nm g ws z (Identifier n) h body = absurd h
@@ -86,6 +86,6 @@ module _ (nm : Names) (w : List ℕ) (p : ℕ) (x : Node) (l : Lies (Named nm) x
 pub inner-inside : {w : List ℕ} {p top : ℕ} → Treed w p top → 8 * p + 8 ≤ length w → at w p 0 ≡ 11 → 8 * at w p 4 + 8 ≤ length w
 inner-inside {w} {p} t i e = let c = inner (t .names) w p (t .tree) (t .lies) e in omega (arith, c .is, c .below)
 
--- the tree is looked at by itself
+-- the tree is considered alone
 pub treed-itself : {w : List ℕ} {p top : ℕ} → Treed w p top → Treed w p (p + 1)
 treed-itself t = record { names = t .names; tree = t .tree; lies = t .lies; below = omega arith }

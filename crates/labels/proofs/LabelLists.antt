@@ -31,7 +31,8 @@ use Rattle.labels.specs.LabelsOf.{one-label, some-labels, GivesCell, Tak
 use Rattle.labels.specs.declared.LabelsTaken.{LabelsTaken}
 use Rattle.labels.specs.declared.LabelsTaken.the-variants as LabelsTaken
 
--- cells stay where the records below top stay, and are found again from another record
+-- cells are unchanged where the records below top are unchanged, and are found again from another
+-- record
 cells-stay : (nm : Names) {w w′ : List ℕ} {N top : ℕ} → Keeps w w′ N top → (ls : List (Option Name)) (j k : ℕ) (f g : ℕ → ℕ) (p q : ℕ) → g k ≡ f j → p ≤ top → p ≤ q → LabelCells (Named nm) ls j f w p → LabelCells (Named nm) ls k g w′ q
 cells-stay nm s [] j k f g p q e l m h = tt
 cells-stay nm {w} {w′} s (x ∷ ls) j k f g p q e l m h =
@@ -58,7 +59,7 @@ module _ {w : List ℕ} {N : ℕ} {st u : State} {p : ℕ} (t : Took w N st p u)
   label-from m x xs e = rw e refl
 
   module _ {w′ : List ℕ} {v : State} {a next : ℕ} (g : Grew w w′ N u v (0 ∷ 0 ∷ 0 ∷ a ∷ 0 ∷ next ∷ 0 ∷ 0 ∷ [])) where
-    -- a cell is made for what the entry is
+    -- a cell is made for the entry
     cell-made : ((nm : Names) (x : Node) (m : Demangler) → Lies (Named nm) x w p → (l : Option Name) × (R.label-in x m ≡ ok l m) × LabelIs (Named nm) l a) → GivesCell w w′ N st next (u .top) v
     cell-made f = record {
       above = omega (arith, t .top);
@@ -101,19 +102,19 @@ pub label-empty : (m : Demangler) → m .stack ≡ [] → one-label m ≡ refuse
 unfolding M.pop M.pop-if M.pop-from
 label-empty m e = rw e refl
 
--- an arm's answer
+-- the result of an arm
 pub cell-at : {w w′ : List ℕ} {N : ℕ} {st : State} {next : ℕ} {r : Popped} (p : ℕ) (u : State) → r ≡ Popped.Place p u → TakesCell w w′ N st next r → GivesCell w w′ N st next p u
 cell-at {w} {w′} {N} {st} {next} p u e h = subst (λ (x : Popped). TakesCell w w′ N st next x) e h
 
 pub cell-not : {w w′ : List ℕ} {N : ℕ} {st : State} (next : ℕ) {r : Popped} → r ≡ Popped.Nothing → TakesCell w w′ N st next r → ((nm : Names) (sp : Spare) (m : Demangler) → Holds nm w N st sp m → one-label m ≡ refused 10) × Beyond 64 N w w′
 cell-not {w} {w′} {N} {st} next e h = subst (λ (x : Popped). TakesCell w w′ N st next x) e h
 
--- SO MANY ENTRIES
+-- THAT MANY ENTRIES
 pub assoc : {S A B D : Type 0} (x : Out S A) (f : A → Step S B) (g : B → Step S D) → and-then (and-then x f) g ≡ and-then x (λ a s. and-then (f a s) g)
 assoc (ok a s) f g = refl
 assoc (refused r) f g = refl
 
--- the labels up to here; so many are left
+-- the labels up to here; that many are left
 pub record SoFar (nm : Names) (w : List ℕ) (N : ℕ) (u : State) (many left first : ℕ) (sp : Spare) (m : Demangler) : Type 0 where
   pub labels : List (Option Name)
   pub machine : Demangler
@@ -202,7 +203,7 @@ cell-place g r = let h = g .gives (r .names) _ (r .machine) (r .holds) .holds in
 pub labels-fit : {w₀ w : List ℕ} {N : ℕ} {st u : State} {many left first : ℕ} {sp : Spare} → LabelsTo w₀ w N st u many left first → left ≡ 0 → Ready w₀ N st sp → many + 1 < 2 ^ 32
 labels-fit t z r = let h = r .holds in omega (arith, t .deep, h .small, h .charged, h .deep)
 
--- THE LABELS: the empty list is looked for first
+-- THE LABELS: the empty list is tried first
 module _ (nm : Names) {w : List ℕ} {N : ℕ} {st : State} {b : Marked} (t : Marks (R.took K.empty-list) w N st b) (x : Node) where
   pub labels-empty : b .taken ≡ true → TakesLabels nm (R.labels x) w w N st (LabelsTaken.Labels 0 1 (b .next))
   unfolding R.labels

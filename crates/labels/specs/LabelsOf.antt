@@ -1,4 +1,4 @@
--- What the taking of labels says of the definition's steps.
+-- What taking labels says about the definition's steps.
 use mathlib.Core.Path.{_≡_}
 use mathlib.Core.List.{List, []}
 use mathlib.Core.Option.{Option, some}
@@ -16,7 +16,7 @@ use Rattle.records.specs.declared.Popped.the-variants as Popped
 use Rattle.labels.specs.declared.LabelsTaken.{LabelsTaken}
 use Rattle.labels.specs.declared.LabelsTaken.the-variants as LabelsTaken
 
--- some tree lies at place p, below top
+-- w holds some tree at place p, below top
 pub record Treed (w : List ℕ) (p top : ℕ) : Type 0 where
   pub names : Names
   pub tree : Node
@@ -28,11 +28,11 @@ pub record Treed (w : List ℕ) (p top : ℕ) : Type 0 where
 abbrev pub one-label : Run (Option Name)
 one-label = pop >>= label-in
 
--- so many entries
+-- that many entries
 abbrev pub some-labels : ℕ → Run Labels
 some-labels many = labels-from many [] >>= λ ls. ret (some ls)
 
--- an entry was taken, and its cell lies at p, before the cell next
+-- an entry was taken, and its cell is at p, before the cell next
 pub record GivenCell (nm : Names) (w : List ℕ) (N p next : ℕ) (u : State) (sp : Spare) (m : Demangler) : Type 0 where
   pub label : Option Name
   pub machine : Demangler
@@ -52,7 +52,8 @@ abbrev pub TakesCell : (w w′ : List ℕ) (N : ℕ) (st : State) (next : ℕ) �
 TakesCell w w′ N st next (Popped.Place p u) = GivesCell w w′ N st next p u
 TakesCell w w′ N st next Popped.Nothing = ((nm : Names) (sp : Spare) (m : Demangler) → Holds nm w N st sp m → one-label m ≡ refused 10) × Beyond 64 N w w′
 
--- the step f took labels; they lie wherever the two numbers stand side by side in a later record
+-- the step f took labels; they are the labels of any later record that has the two numbers next to
+-- each other
 pub record GivenLabels (nm : Names) (f : Run Labels) (w : List ℕ) (N first number : ℕ) (u : State) (sp : Spare) (m : Demangler) : Type 0 where
   pub labels : Labels
   pub machine : Demangler

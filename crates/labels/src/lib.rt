@@ -1,4 +1,4 @@
-// The labels of a function, which its type asks for.
+// The labels of a function. Its type determines how many there are.
 ghost use mathlib.Core.Path.{_≡_};
 ghost use mathlib.Core.List.{[], _∷_};
 ghost use Prim.Native.Nat.{_+_, _*_, _≤_, _<_};
@@ -13,13 +13,14 @@ use records::Fields;
 use records::Popped;
 use records::State;
 
-// The place of the first label's cell, and the number of labels and 1 more; 0 and 0 where there are none of a function's own.
+// The place of the first label's cell, and the number of labels plus 1; 0 and 0 if the function has
+// no labels of its own.
 pub enum LabelsTaken {
     Labels(u32, u32, State),
     Nothing,
 }
 
-// The parameters of the function type at place p, none of any other type.
+// The number of parameters of the function type at place p; 0 for any other type.
 fn arity_of(ws: &[u32], p: usize) -> u32
     requires { ⌜ 8 * p + 8 ≤ length (now ws) ⌝ }
     ensures { λ r. ⌜ ((nm : Names) (x : Node) → Lies (Named nm) x (now (ws .entry)) p → r ≡ R.arity-of x) ⌝ }
@@ -30,7 +31,7 @@ fn arity_of(ws: &[u32], p: usize) -> u32
     0
 }
 
-// How many labels the type at place ty asks for, under a signature too.
+// The number of labels that the type at place ty requires, also if it is under a signature.
 fn arity(ws: &[u32], ty: usize) -> u32
     requires { ⌜ 8 * ty + 8 ≤ length (now ws) ⌝ }
     requires { ⌜ Treed (now ws) ty (ty + 1) ⌝ }
@@ -42,7 +43,7 @@ fn arity(ws: &[u32], ty: usize) -> u32
     arity_of(ws, ty)
 }
 
-// The cell of one entry: its label, and the place of the cell behind it.
+// Makes the cell of one entry: its label, and the place of the cell after it.
 fn cell(ws: &mut [u32], n: usize, st: State, label: u32, next: u32) -> State
     requires { ⌜ Inside (now ws) n st 2 0 0 ⌝ }
     ensures { λ r. ⌜ Grew (now (ws .entry)) (now (ws .exit)) n st r (0 ∷ 0 ∷ 0 ∷ label ∷ 0 ∷ next ∷ 0 ∷ 0 ∷ []) ⌝ }
@@ -57,7 +58,7 @@ fn cell(ws: &mut [u32], n: usize, st: State, label: u32, next: u32) -> State
     records::grow(ws, n, st, 0, 0, 0, rest)
 }
 
-// One entry of the labels, in a cell before the cell next.
+// Takes one entry of the labels, and puts it in a cell before the cell `next`.
 fn label(ws: &mut [u32], n: usize, st: State, next: u32) -> Popped
     requires { ⌜ Ready (now ws) n st nothing-spare ⌝ }
     ensures { λ r. ⌜ TakesCell (now (ws .entry)) (now (ws .exit)) n st next r ⌝ }
@@ -79,7 +80,7 @@ fn label(ws: &mut [u32], n: usize, st: State, next: u32) -> Popped
     }
 }
 
-// So many entries, each put in front.
+// Takes `many` entries, and puts each in front.
 fn labels_from(ws: &mut [u32], n: usize, st: State, many: u32) -> LabelsTaken
     requires { ⌜ Ready (now ws) n st nothing-spare ⌝ }
     ensures { λ r. ⌜ ((nm : Names) → TakesLabels nm (some-labels many) (now (ws .entry)) (now (ws .exit)) n st r) ⌝ }
@@ -102,7 +103,7 @@ fn labels_from(ws: &mut [u32], n: usize, st: State, many: u32) -> LabelsTaken
     LabelsTaken::Labels(first, many + 1, u)
 }
 
-// The labels of the function whose type is at place ty.
+// Takes the labels of the function whose type is at place ty.
 pub fn labels(ws: &mut [u32], n: usize, st: State, ty: usize) -> LabelsTaken
     requires { ⌜ Ready (now ws) n st nothing-spare ⌝ }
     requires { ⌜ Treed (now ws) ty (st .top) ⌝ }

@@ -1,4 +1,4 @@
--- What an answer says that a match took apart. Assumes nothing.
+-- What a result says that a match took apart. Assumes nothing.
 use mathlib.Core.Path.{_≡_, ap, subst, _∙_}
 use mathlib.Core.Option.{Option, some, none}
 use Prim.Native.Nat.{ℕ, _+_, _≤_}
@@ -16,13 +16,13 @@ use Rattle.letters.specs.Answers.{Stands, Operated}
 use Rattle.letters.specs.declared.OperatorRead.{OperatorRead}
 use Rattle.letters.specs.declared.OperatorRead.the-variants as OperatorRead
 
--- an answer to a step is one to a step with the same outcome, from an earlier place
+-- a result of a step is a result of any step with the same outcome, from an earlier place
 pub operated-is : (text : Text) {o o′ : Out Text Operator} {least least′ : ℕ} → o ≡ o′ → least ≤ least′ → (r : OperatorRead) → Operated o′ text least′ r → Operated o text least r
 operated-is text e l (OperatorRead.Read q c) h = record { is = e ∙ h .is; inside = h .inside; onward = omega arith }
 operated-is text e l (OperatorRead.Substitutions c) h = h
 operated-is text e l (OperatorRead.Refused f) h = e ∙ h
 
--- what the answer says that a match took apart
+-- what the result says that a match took apart
 pub byte-read : (text : Text) (from : ℕ) {o : Out Text ℕ} {r : Byte} {b : ℕ} {c : Cursor} → r ≡ Byte.Read b c → Byted o text from r → Stands o b text (from + 1) c
 byte-read text from {o} e h = let b = subst (Byted o text from) e h in record { is = b .is; inside = b .inside; onward = b .onward }
 

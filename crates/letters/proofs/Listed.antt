@@ -1,4 +1,4 @@
--- A table whose entries are those of numbers in a row. Assumes nothing.
+-- A table whose entries are those of consecutive numbers. Assumes nothing.
 use mathlib.Core.Path.{_≡_, refl, sym, ap, _∙_}
 use mathlib.Core.List.{List, [], _∷_}
 use mathlib.Core.Option.{some, none}
@@ -26,7 +26,7 @@ past-none [] i h = refl
 past-none (x ∷ xs) zero h = absurd (not-suc-le-zero h)
 past-none (x ∷ xs) (suc i) h = past-none xs i (le-of-suc-le-suc h)
 
--- a whole table: the entry at the place i of the letter b
+-- a whole table: the entry at the index i of the letter b
 module _ {A : Type 0} (table : List (Char × A)) (b i : ℕ) (e : i ≡ place b (letters table)) where
   pub pick-at : pick b table ≡ getElem? (entries table) i
   pick-at = pick-place b table ∙ ap (getElem? (entries table)) (sym e)

@@ -3,7 +3,7 @@ use mathlib.Core.Path.{_≡_}
 use Prim.Native.Nat.{ℕ, zero, suc, _≤_}
 use native.Mathlib.Omega.{arith}
 
--- what is known where no arm of a match on k was taken, with the arms of 0 to n - 1
+-- what is known if no arm of a match on k was taken, with the arms of 0 to n - 1
 abbrev pub Passed : ℕ → ℕ → Type 0
 Passed k zero = Unit {0}
 Passed k (suc n) = Passed k n × (k ≡ n → ⊥)

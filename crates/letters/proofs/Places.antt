@@ -1,4 +1,4 @@
--- The place of a letter in a table, and the definition's `pick`. Assumes nothing.
+-- The index of a letter in a table, and the definition's `pick`. Assumes nothing.
 use mathlib.Core.Path.{_≡_, refl, sym, ap, _∙_}
 use mathlib.Core.Bool.{true, false}
 use mathlib.Core.List.{List, [], _∷_}
@@ -48,7 +48,7 @@ unfolding pick
 absent b [] h = refl
 absent b (e ∷ es) h = pick-later b (e .0) (e .1) es (ne-eqb b (code (e .0)) (h .0)) ∙ absent b es (h .1)
 
--- the entry of a letter stands at the letter's place
+-- the entry of a letter is at the index of the letter
 pub pick-place : {A : Type 0} (b : ℕ) (table : List (Char × A)) → pick b table ≡ getElem? (entries table) (place b (letters table))
 unfolding pick entries letters place
 pick-place b [] = refl

@@ -1,4 +1,4 @@
--- Tables of letters, as lists beside each other. Assumes nothing.
+-- Tables of letters, as parallel lists. Assumes nothing.
 use mathlib.Core.Bool.{true, false}
 use mathlib.Core.List.{List, [], _∷_}
 use Prim.Native.Nat.{ℕ, suc}
@@ -6,7 +6,7 @@ use Prim.Native.Char.{Char, code}
 use lib.Dec.{eqb}
 
 module _ {A : Type 0} where
-  -- the letters of a table, and what stands behind each
+  -- the letters of a table, and the entry of each
   unfoldable pub letters : List (Char × A) → List ℕ
   letters [] = []
   letters (e ∷ es) = code (e .0) ∷ letters es
@@ -15,7 +15,7 @@ module _ {A : Type 0} where
   entries [] = []
   entries (e ∷ es) = e .1 ∷ entries es
 
--- the place of the first b in a list, its length where there is none
+-- the index of the first b in a list, or its length if there is none
 unfoldable pub place : ℕ → List ℕ → ℕ
 place b [] = 0
 place b (x ∷ xs) = elim (eqb b x) [ true ↦ 0 | false ↦ suc (place b xs) ]

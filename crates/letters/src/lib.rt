@@ -1,22 +1,20 @@
-// Letters and their tables, and the answer to the reading of an operator.
+// What follows the first letter of an operator, and the result of reading an operator.
 ghost use mathlib.Core.Path.{_≡_};
-ghost use mathlib.Core.Bool.{false};
-ghost use Prim.Native.Nat.{_+_, _<_};
 ghost use Rattle.definition.specs.Base.{lower, upper};
 ghost use Rattle.letters.specs.Letters.{place};
-ghost use Rattle.definition.specs.declared.Operator.the-variants as Operator;
 use definition::Operator;
 use definition::Refusal;
 use text::Cursor;
 
-// An operator and the next cursor; `A`, whose letters are read one by one from the cursor on; or a refusal.
+// An operator and the next cursor; `A`, whose letters are read one by one from the cursor on; or a
+// refusal.
 pub enum OperatorRead {
     Read(Operator, Cursor),
     Substitutions(Cursor),
     Refused(Refusal),
 }
 
-// The place of the first b among the letters, or their count.
+// Returns the index of the first b among the letters, or their count.
 pub fn place_of(letters: &[u8], b: u8) -> usize
     ensures { λ r. ⌜ r ≡ place b (now (letters .entry)) ⌝ }
 {

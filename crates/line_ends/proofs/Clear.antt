@@ -9,7 +9,7 @@ use lib.ListN.{getD}
 use Rattle.definition.specs.Text.{Text}
 use Rattle.line_ends.specs.Ends.{newline}
 
--- one byte more that is no newline
+-- one more byte that is not a newline
 pub clear-next : (t : Text) (from at : ℕ) → ((i : ℕ) → from ≤ i → i < at → getD t i 0 ≡ newline → ⊥) → (getD t at 0 ≡ newline → ⊥) → (i : ℕ) → from ≤ i → i < at + 1 → getD t i 0 ≡ newline → ⊥
 clear-next t from at h k i a b = go (ltb i at) refl
   where

@@ -3,7 +3,7 @@ ghost use Prim.Native.Nat.{_≤_};
 ghost use lib.ListN.{length};
 ghost use Rattle.line_ends.specs.Ends.{Ends};
 
-// The end of the line that begins at from.
+// Returns the end of the line that begins at `from`.
 pub fn line_end(text: &[u8], from: usize) -> usize
     requires { ⌜ from ≤ length (now text) ⌝ }
     ensures { λ r. ⌜ Ends (now (text .entry)) from r ⌝ }

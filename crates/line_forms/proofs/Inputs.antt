@@ -35,7 +35,7 @@ module _ (line : Text → List ℕ) where
   unfolding answers-from
   goes-on b c t e = rw (e, answers-from)
 
-  -- bytes of a line that goes on
+  -- bytes of a line that continues
   begun : (b l u : Text) → Clear l → answers-from line b (l ++ u) ≡ answers-from line (b ++ l) u
   begun b [] u h = ap (λ (x : Text). answers-from line x u) (sym (append-nil b))
   begun b (c ∷ l) u h =
@@ -68,13 +68,13 @@ module _ (line : Text → List ℕ) where
   unfolding owed
   owed-last t h k = last-line t h ∙ last-is t k
 
-  -- where nothing is left, nothing is answered
+  -- if nothing is left, nothing is answered
   pub owed-none : (t : Text) → length t ≡ 0 → owed line false t ≡ []
   unfolding owed
   owed-none [] e = nothing-left
   owed-none (c ∷ t) e = absurd (omega arith)
 
-  -- INSIDE A LINE that is answered already
+  -- INSIDE A LINE that is already answered
   pub owed-inside : (l u : Text) → Clear l → owed line true (l ++ u) ≡ owed line true u
   unfolding owed
   owed-inside l u h = ap (answers line) (after-clear l u h)
@@ -87,7 +87,7 @@ module _ (line : Text → List ℕ) where
   unfolding owed after-line
   owed-ended = nothing-left
 
-  -- A LONG LINE: where all lines of more than n bytes are answered alike
+  -- A LONG LINE: if all lines of more than n bytes are answered alike
   module _ (n : ℕ) (alike : (s t : Text) → n < length s → n < length t → line s ≡ line t) where
     long-from : (a b u : Text) → n < length a → n < length b → answers-from line b u ≡ line a ++ answers line (after-line u)
     unfolding answers answers-from after-line

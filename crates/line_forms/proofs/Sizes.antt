@@ -1,4 +1,4 @@
--- How long a number and an answer line are. Assumes nothing.
+-- The length of a number and of an answer line. Assumes nothing.
 use mathlib.Core.Path.{_≡_, refl, ap}
 use mathlib.Core.Bool.{Bool, true, false}
 use mathlib.Core.List.{[], _∷_, _++_}
@@ -11,7 +11,7 @@ use Rattle.definition.specs.Base.{decimal}
 use Rattle.numerals.proofs.Digits.{one-digit, more-digits}
 use Rattle.line_forms.specs.Lines.{field, refused-line, accepted-line, counts-told}
 
--- 10 to the k
+-- 10 to the power of k
 abbrev tens : ℕ → ℕ
 tens zero = 1
 tens (suc k) = 10 * tens k

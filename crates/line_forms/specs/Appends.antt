@@ -13,7 +13,7 @@ pub record Space (o : List ℕ) (at : ℕ) : Type 0 where
   pub room : at + longest ≤ length o
   pub small : length o < 2 ^ 63
 
--- the bytes s stand in the slice from `at` to r, and the rest of it is as it was
+-- the slice has the bytes s from `at` to r, and the rest of it is unchanged
 pub record Appends (o o′ : List ℕ) (at : ℕ) (s : List ℕ) (r : ℕ) : Type 0 where
   pub wrote : Wrote (length o) o o′ at s r
   pub inside : r ≤ length o

@@ -1,4 +1,5 @@
--- Document 01, "Program `names`": what the programs `names` and `shapes` answer, as bytes. Assumes nothing.
+-- Document 01, "Program `names`": the answers of the programs `names` and `shapes`, as bytes.
+-- Assumes nothing.
 use mathlib.Core.Path.{_≡_}
 use mathlib.Core.Bool.{Bool, true, false}
 use mathlib.Core.List.{List, [], _∷_, _++_}
@@ -23,7 +24,7 @@ field n = 9 ∷ decimal n
 unfoldable pub refused-line : (number place : ℕ) → List ℕ
 refused-line n p = 33 ∷ (field n ++ field p ++ (newline ∷ []))
 
--- `=` and what is told of an accepted text
+-- `=` and what is reported for an accepted text
 unfoldable pub accepted-line : (told : List ℕ) → List ℕ
 accepted-line told = 61 ∷ (told ++ (newline ∷ []))
 
@@ -52,7 +53,7 @@ name-line t = read-line t (name-answer (demangle t 256 16384 16384))
 unfoldable pub shape-line : Text → List ℕ
 shape-line t = read-line t (shape-answer (shape t 256 16384 .values))
 
--- what a program is asked of each line
+-- what a program is asked for each line
 abbrev pub line-of : Asked → Text → List ℕ
 line-of Asked.Name t = name-line t
 line-of Asked.Shape t = shape-line t
@@ -63,7 +64,7 @@ unfoldable pub last-answer : (Text → List ℕ) → Text → List ℕ
 last-answer line [] = []
 last-answer line (c ∷ t) = line (c ∷ t)
 
--- each line's answer, in order; `begun` is what the line has so far
+-- the answer for each line, in order; `begun` is the beginning of the current line
 unfoldable pub answers-from : (Text → List ℕ) → (begun : Text) → Text → List ℕ
 answers-from line begun [] = last-answer line begun
 answers-from line begun (c ∷ t) = elim (eqb c newline) [
@@ -75,11 +76,11 @@ unfoldable pub answers : (Text → List ℕ) → Text → List ℕ
 answers line t = answers-from line [] t
 
 -- THE REST OF AN INPUT
--- no newline is in it
+-- it has no newline
 abbrev pub Clear : Text → Type 0
 Clear t = (i : ℕ) → i < length t → getD t i 0 ≡ newline → ⊥
 
--- what follows the first newline; nothing where there is none
+-- what follows the first newline; nothing if there is none
 unfoldable pub after-line : Text → Text
 after-line [] = []
 after-line (c ∷ t) = elim (eqb c newline) [
@@ -87,7 +88,7 @@ after-line (c ∷ t) = elim (eqb c newline) [
   | false ↦ after-line t
 ]
 
--- The answers that are still to be written where t is left of the input: those of t; or, where t
--- begins inside a line that is answered already, those of what follows that line.
+-- The answers that are still to be written where t is the rest of the input: those for t; or, if t
+-- begins inside a line that is already answered, those for what follows that line.
 unfoldable pub owed : (Text → List ℕ) → (inside : Bool) → Text → List ℕ
 owed line inside t = if inside then answers line (after-line t) else answers line t

@@ -9,7 +9,7 @@ use output::put_byte;
 // The longest line that is read.
 pub const LINE: usize = 4096;
 
-// What is asked of each line: a symbol's text, or its shape.
+// What is asked for each line: the text of a symbol, or its shape.
 pub enum Asked {
     Name,
     Shape,

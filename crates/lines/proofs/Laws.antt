@@ -1,4 +1,4 @@
--- From a call's answer to its line. Assumes nothing.
+-- From the answer of a call to its line. Assumes nothing.
 use mathlib.Core.Path.{_≡_, refl, sym, ap, subst, _∙_}
 use mathlib.Core.Bool.{false}
 use mathlib.Core.List.{List, [], _∷_, _++_, append-assoc, append-nil}
@@ -31,7 +31,7 @@ use Rattle.line_forms.proofs.Sizes.{refused-long}
 use Rattle.lines.specs.Does.{Reads}
 use Rattle.lines.proofs.Sizes.{Fits, demangle-fits}
 
--- A CALL'S ANSWER
+-- THE ANSWER OF A CALL
 -- no refusal has the number 0
 refused-number : (f : Refusal) → eqb (number f) 0 ≡ false
 unfolding number
@@ -71,7 +71,7 @@ module _ {o o′ : List ℕ} {at e : ℕ} {r : Answer} {v : Values} (is : values
       appends-is (ap (λ (x : ℕ). refused-line x p) j ∙ s ∙ ap (λ (x : Answer). shape-answer (values x)) (sym q) ∙ ap shape-answer is) a
 
 -- NAMES
--- what is written over bytes that end before it does
+-- what overwrites bytes that end before it does
 overwritten : {R : ℕ} {o o₁ o₂ h s : List ℕ} {at m r : ℕ} → at ≤ length o → m ≤ length o → m ≤ r → r ≤ length o → Wrote R o o₁ at h m → Wrote R o₁ o₂ at s r → Wrote R o o₂ at s r
 overwritten {R} {o} {o₁} {o₂} {h} {s} {at} {m} {r} i j k l a b = record {
   next = b .next;
@@ -171,7 +171,7 @@ module _ {o p p′ o′ : List ℕ} {at n : ℕ} (a : Calls.Answer) {r : Answer}
         written = e ∙ ap (λ (u : List ℕ). take at o ++ u ++ drop (at + n) o) (x .written) ∙ i ∙ ap (λ (u : List ℕ). take at o ++ a .written ++ u) d;
       }
 
--- the part comes back
+-- the part is put back
 pub put-back : (o p′ : List ℕ) (at : ℕ) → putMid at ((at + 16384) - at) o p′ ≡ take at o ++ p′ ++ drop (at + 16384) o
 put-back o p′ at =
     let h : at ≤ at + 16384 = omega arith in

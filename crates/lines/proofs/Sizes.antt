@@ -1,4 +1,4 @@
--- How long a call's text is. Assumes nothing.
+-- The length of the text of a call. Assumes nothing.
 use mathlib.Core.Path.{_≡_, refl}
 use mathlib.Core.Bool.{Bool, true, false}
 use Prim.Native.Nat.{ℕ, _≤_}
@@ -12,7 +12,7 @@ use Rattle.definition.specs.Calls.{Answer, refusal, within}
 use Rattle.definition.specs.Reading.{read, demangle}
 use Rattle.endings.proofs.Users.{symbol-read-plain}
 
--- the length that an answer tells is that of what is written
+-- the length in an answer is that of what is written
 abbrev pub Told : Answer → Type 0
 Told a = a .values .length ≡ length (a .written)
 

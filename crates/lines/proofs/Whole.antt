@@ -1,4 +1,4 @@
--- The lines of a buffer, one after the other. Assumes nothing.
+-- The lines of a buffer, one after another. Assumes nothing.
 use mathlib.Core.Path.{_≡_, sym, ap, subst, _∙_}
 use mathlib.Core.List.{List, [], _∷_, _++_, append-assoc, append-nil}
 use Prim.Native.Nat.{ℕ, _+_, _-_, _≤_, _<_, _^_}
@@ -41,7 +41,7 @@ module _ (line : Text → List ℕ) where
         let a : take end t ≡ take read t ++ part t read end = ap (λ (n : ℕ). take n t) (sym q) ∙ take-add read (end - read) t in
         ap (λ (n : ℕ). take n t) (add-one end) ∙ take-suc t end 0 more ∙ ap (λ (x : ℕ). take end t ++ (x ∷ [])) (e .stop more) ∙ ap (λ (x : Text). x ++ (newline ∷ [])) a ∙ append-assoc (take read t) (part t read end) (newline ∷ [])
 
-    -- answers of the lines so far and of what follows
+    -- answers for the lines so far and for what follows
     onward : (u : Text) → answers line (take (end + 1) t ++ u) ≡ (answers line (take read t) ++ line (part t read end)) ++ answers line u
     onward u =
         let l : Text = part t read end in

@@ -1,4 +1,4 @@
--- What the functions on slices do. Assumes nothing.
+-- The effects of the functions on slices. Assumes nothing.
 use mathlib.Core.Path.{_≡_}
 use mathlib.Core.List.{List, _++_}
 use Prim.Native.Nat.{ℕ, _+_, _≤_, _<_}
@@ -12,12 +12,13 @@ use Rattle.line_forms.specs.Appends.{longest, Appends}
 use Rattle.line_forms.specs.Lines.{answers}
 use Rattle.lines.specs.declared.Progress.{Progress}
 
--- a call's answer, with what it writes from `at` on
+-- the answer of a call, with what it writes from `at` on
 pub record Reads (a : Calls.Answer) (o o′ : List ℕ) (at : ℕ) (r : Answer) : Type 0 where
   pub values : values r ≡ a .values
   pub written : o′ ≡ take at o ++ a .written ++ drop (at + length (a .written)) o
 
--- the lines up to p .read are answered, each with its newline, up to p .written; while there is room, all that have one are
+-- the lines up to p .read are answered, each with its newline, up to p .written; while there is
+-- room, all lines that have a newline are answered
 pub record Answered (line : Text → List ℕ) (t : Text) (o o′ : List ℕ) (p : Progress) : Type 0 where
   pub inside : p .read ≤ length t
   pub appends : Appends o o′ 0 (answers line (take (p .read) t)) (p .written)

@@ -1,4 +1,5 @@
-// The answers of the programs `names` and `shapes`: of one line, and of the lines of a buffer (line_forms/specs/Lines.antt).
+// The answers of the programs `names` and `shapes`: for one line, and for the lines of a buffer
+// (line_forms/specs/Lines.antt).
 ghost use mathlib.Core.Path.{_≡_};
 ghost use Prim.Native.Nat.{_+_, _≤_, _<_, _^_};
 ghost use lib.ListN.{length};
@@ -25,7 +26,7 @@ const TEXT: usize = 16384;
 // The longest answer: `=`, a tab, a text and a newline.
 const ANSWER: usize = 16387;
 
-// Reads a symbol, with its text from at on.
+// Reads a symbol, and writes its text to out, starting at `at`.
 fn read(line: &[u8], ws: &mut [u32], out: &mut [u8], at: usize) -> Answer
     requires { ⌜ (length (now ws) ≡ 16384) × (at + 16384 ≤ length (now out)) ⌝ }
     ensures { λ r. ⌜ Reads (Reading.demangle (now (line .entry)) 256 16384 16384) (now (out .entry)) (now (out .exit)) at r × (length (now (ws .exit)) ≡ 16384) ⌝ }
@@ -45,7 +46,7 @@ fn answer_name(line: &[u8], ws: &mut [u32], out: &mut [u8], at: usize) -> usize
     let from = put_byte(out, marked, room, b'\t');
     match read(line, ws, out, from) {
         Answer::Accepted(_, n) => put_byte(out, from + n, room, b'\n'),
-        // over `=` and the tab
+        // overwrites `=` and the tab
         Answer::Refused(refusal, place) => put_refusal(out, at, values::number(refusal), place),
     }
 }
@@ -62,7 +63,7 @@ fn answer_shape(line: &[u8], ws: &mut [u32], out: &mut [u8], at: usize) -> usize
     }
 }
 
-// Answers a line from at on; the answer is the place behind its newline.
+// Answers a line, starting at `at`. Returns the place after the newline of the answer.
 pub fn answer_line(asked: Asked, line: &[u8], ws: &mut [u32], out: &mut [u8], at: usize) -> usize
     requires { ⌜ length (now ws) ≡ 16384 ⌝ }
     requires { ⌜ Space (now out) at ⌝ }
@@ -77,7 +78,7 @@ pub fn answer_line(asked: Asked, line: &[u8], ws: &mut [u32], out: &mut [u8], at
     }
 }
 
-// How many bytes of the input were answered, and how many bytes their answers have.
+// The number of bytes of the input that were answered, and the number of bytes of their answers.
 pub struct Progress {
     pub read: usize,
     pub written: usize,

@@ -36,7 +36,7 @@ one-more e {a = a} {b = b} h q =
 pub no-more : {A : Type 0} {f : Check A} {w : List ℕ} {st u : State} {x : A} {l m : ℕ} (a : Taken) → Went f w st l m x u → Gathered w st a a u
 no-more a h = record { depth = omega (arith, h .depth); size = omega (arith, h .lighter); count = omega (arith, h .depth); seen = h .seen; total = h .total }
 
--- something else went before
+-- another step succeeded before
 pub before : {A : Type 0} {f : Check A} {w : List ℕ} {st s u : State} {x : A} {l m : ℕ} {a b : Taken} → Went f w st l m x s → Gathered w s a b u → Gathered w st a b u
 before h g = record { depth = omega (arith, h .depth, g .depth); size = omega (arith, h .lighter, g .size); count = omega (arith, h .depth, g .count); seen = g .seen ∙ h .seen; total = g .total ∙ h .total }
 
@@ -50,7 +50,7 @@ pub adds-after : {w : List ℕ} {st u : State} {a b : Taken} → Adds w st a →
 adds-after {u = u} h g = record { held = held-less u (h .held) (g .depth); light = omega (arith, h .light, g .size); few = omega (arith, h .few, g .count) }
 
 -- ROUNDS
--- the answer by whether the round was the last
+-- the result by whether the round was the last
 pub round-ended : (E : ℕ → C.Taken → Check C.Taken) {w : List ℕ} {st u : State} {a b : Taken} (l : Bool)
     → ((N f : ℕ) → E (suc f) (taken-of a) (machine-of w N st) ≡ (if l then ret (taken-of b) else E f (taken-of b)) (machine-of w N u)) → u .depth < st .depth → Gathered w st a b u → Rounding E w st a (ended-of l b u)
 round-ended E true h d g = record { is = h; gathered = g }
@@ -119,7 +119,7 @@ module _ {w : List ℕ} {st : State} where
   unfolding C.requirements-from
   requirement-last h a = record { is = λ N f. on h N _; gathered = gathered-none }
 
--- ALL ROUNDS: those up to here; as many as are left are enough
+-- ALL ROUNDS: those up to here; the remaining number is enough
 pub record Rounds (s : Series) (w : List ℕ) (st₀ : State) (a₀ : Taken) (st : State) (a : Taken) : Type 0 where
   pub left : ℕ
   pub enough : st .depth < left

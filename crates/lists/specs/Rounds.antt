@@ -1,4 +1,4 @@
--- What lists of entries come to.
+-- The results of lists of entries.
 use mathlib.Core.Path.{_≡_}
 use mathlib.Core.Bool.{Bool, true, false}
 use mathlib.Core.List.{List}
@@ -22,27 +22,27 @@ use Rattle.lists.specs.declared.Round.the-variants as Round
 use Rattle.entries.specs.declared.Taking.{Taking}
 use Rattle.entries.specs.declared.Taking.the-variants as Taking
 
--- the definition's loops, by what bounds their rounds
+-- the definition's loops, given the bound of their rounds
 abbrev pub from-of : Series → ℕ → C.Taken → Check C.Taken
 from-of Series.Elements = C.elements-from
 from-of Series.Members = C.members-from
 from-of Series.Arguments = C.arguments-from
 from-of Series.Requirements = C.requirements-from
 
--- what is done where no argument is on top; f rounds are left after it
+-- what is done if no argument is on top; f rounds are left after it
 abbrev pub argument-marks : ℕ → C.Taken → Check C.Taken
 argument-marks zero a = refuse 10
 argument-marks (suc f) a = do
   opened ← C.took K.empty-list
   if opened then ret a else (C.pop-if (eqb K.first-element-marker) >> C.arguments-from f a)
 
--- there is room to add up what lies on the stack to what was taken
+-- there is room to add the entries on the stack to what was taken
 pub record Adds (w : List ℕ) (st : State) (a : Taken) : Type 0 where
   pub held : Held w st
   pub light : a .size + load w st ≤ 2 ^ 20
   pub few : a .count + st .depth < 2 ^ 32
 
--- what was added to a, to make b, is gone from the stack
+-- what was added to a, to make b, was removed from the stack
 pub record Gathered (w : List ℕ) (st : State) (a b : Taken) (u : State) : Type 0 where
   pub depth : u .depth ≤ st .depth
   pub size : b .size + load w u ≤ a .size + load w st
@@ -60,7 +60,7 @@ pub record More (E : ℕ → C.Taken → Check C.Taken) (w : List ℕ) (st : Sta
   pub less : u .depth < st .depth
   pub gathered : Gathered w st a b u
 
--- the marks are for the arguments' loop
+-- the marks are for the loop over arguments
 pub record Marks (w : List ℕ) (st : State) (a b : Taken) (u : State) : Type 0 where
   pub is : (N f : ℕ) → argument-marks (suc f) (taken-of a) (machine-of w N st) ≡ C.arguments-from f (taken-of b) (machine-of w N u)
   pub less : u .depth < st .depth

@@ -17,7 +17,7 @@ use entries::took;
 use entries::try_take;
 use kinds::Want;
 
-// The lists on the stack.
+// The kinds of lists on the stack.
 pub enum Series {
     Elements,
     Members,
@@ -32,7 +32,7 @@ pub enum Round {
     Refused(Refusal),
 }
 
-// One more entry, which is counted.
+// Adds one entry, which is counted.
 fn add_counted(a: Taken, e: Entry) -> Taken
     requires { ⌜ (a .size ≤ 2 ^ 20) × (a .count < 2 ^ 32) ⌝ }
     ensures { λ r. ⌜ taken-of r ≡ C.add-counted (entry-of e) (taken-of a) ⌝ }
@@ -53,7 +53,7 @@ fn ended(last: bool, a: Taken, next: State) -> Round
     Round::More(a, next)
 }
 
-// A type with its markers and its label.
+// Takes a type with its markers and its label.
 fn element(ws: &[u32], st: State, a: Taken) -> Round
     requires { ⌜ Adds (now ws) st a ⌝ }
     ensures { λ r. ⌜ Rounding C.elements-from (now (ws .entry)) st a r ⌝ }
@@ -70,7 +70,7 @@ fn element(ws: &[u32], st: State, a: Taken) -> Round
     }
 }
 
-// A protocol of a list.
+// Takes a protocol of a list.
 fn member(ws: &[u32], st: State, a: Taken) -> Round
     requires { ⌜ Adds (now ws) st a ⌝ }
     ensures { λ r. ⌜ Rounding C.members-from (now (ws .entry)) st a r ⌝ }
@@ -83,7 +83,8 @@ fn member(ws: &[u32], st: State, a: Taken) -> Round
     }
 }
 
-// What lies before the arguments of a type: the empty list, or the marker between two lists of them.
+// Takes what is before the arguments of a type: the empty list, or the marker between two lists of
+// arguments.
 fn argument_mark(ws: &[u32], st: State, a: Taken) -> Round
     requires { ⌜ Held (now ws) st ⌝ }
     ensures { λ r. ⌜ ArgumentMark (now (ws .entry)) st a r ⌝ }
@@ -131,7 +132,7 @@ fn round_of(ws: &[u32], st: State, a: Taken, series: Series) -> Round
     }
 }
 
-// All of a list.
+// Takes a whole list.
 pub fn gather(ws: &[u32], st: State, a: Taken, series: Series) -> Taking
     requires { ⌜ Adds (now ws) st a ⌝ }
     ensures { λ r. ⌜ Gathering (all-of series (taken-of a)) (now (ws .entry)) st a r ⌝ }

@@ -12,12 +12,12 @@ use Rattle.definition.specs.Print.{join, generic-param-name, param-names, effec
 use Rattle.output.specs.Sink.{Room, Wrote, Rest, rest-start, rest-then, rest-is, rest-end, rest-past}
 use Rattle.naming.specs.Texts.{texts, text-of, sep-before}
 
--- each text with the text of the number n before it
+-- each text preceded by the text with number n
 unfoldable pub led : ℕ → List Name → Name
 led n [] = []
 led n (x ∷ xs) = text-of n ++ (x ++ led n xs)
 
--- what is left of a list where i of its texts were put
+-- what is left of a list after i of its texts were put
 unfoldable pub left : ℕ → ℕ → List Name → Name
 left n zero xs = join (getD texts n "") xs
 left n (suc i) xs = led n xs

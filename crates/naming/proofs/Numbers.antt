@@ -1,4 +1,4 @@
--- What the number of a name stands for. Assumes nothing.
+-- What the number of a name represents. Assumes nothing.
 use mathlib.Core.Path.{_≡_, refl, sym, ap, _∙_}
 use mathlib.Core.Bool.{Bool, true, false, not, _&&_}
 use mathlib.Core.List.{List, [], _∷_}
@@ -34,17 +34,17 @@ drop-past zero (x ∷ t) h = absurd (omega arith)
 drop-past (suc k) (x ∷ t) h = drop-past k t (omega arith)
 
 module _ (text : Text) (w : Words) {k : ℕ} {n : Name} where
-  -- below 65,536 it is an identifier's offset
+  -- below 65,536 it is the offset of an identifier
   pub named-spells : k < 65536 → Named (naming text w) k n → Spells text w k n
   named-spells h (spelled words r u l e b q) = record { words = words; read = r; rest = u; is = e; later = b; named = q }
   named-spells h (is-fixed l m e) = absurd (omega arith)
 
-  -- from there on a fixed name's number
+  -- from there on it is the number of a fixed name
   pub named-fixed : 65536 ≤ k → Named (naming text w) k n → bytes (fixed (k - 65536)) ≡ n
   named-fixed h (spelled words r u l e b q) = absurd (omega arith)
   named-fixed h (is-fixed l m e) = e
 
-  -- no identifier begins at the text's end
+  -- no identifier begins at the end of the text
   pub offset-in : k < 65536 → Named (naming text w) k n → k ≤ length text
   offset-in h a = by-test (ltb (length text) k) refl
     where
@@ -67,7 +67,7 @@ pub same-fixed : (text : Text) (w : Words) {k n : ℕ} {name known : Name} → 6
 same-fixed text w {k} {n} {name} {known} l a h =
     sym (a .only (k - 65536)) ∙ ap (λ (x : Name). same x known) (named-fixed text w l h)
 
--- NAMES THAT STAND ONCE IN THE TABLE
+-- NAMES THAT OCCUR ONCE IN THE TABLE
 abbrev alike : Bool → Bool → Bool
 alike true b = b
 alike false b = not b
@@ -78,7 +78,7 @@ alike-is true false h = absurd h
 alike-is false true h = absurd h
 alike-is false false h = refl
 
--- of the names from the number i on, just that of the number n is this one
+-- of the names from the number i on, only the one with number n is this one
 unfoldable once : ℕ → Name → ℕ → List String → Bool
 once n name i [] = true
 once n name i (s ∷ ss) = alike (same (bytes s) name) (eqb i n) && once n name (suc i) ss

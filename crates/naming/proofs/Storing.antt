@@ -18,7 +18,7 @@ unfolding spelt low-bytes
 spelt-none [] = refl
 spelt-none (w ∷ ws) = spelt-none ws
 
--- the bytes of the words from i on, where i is a word's place
+-- the bytes of the words from i on, where i is the index of a word
 module _ (ws : List ℕ) (i n : ℕ) (h : i < length ws) where
   spelt-from : low-bytes (min n 8) (getD ws i 0) ++ spelt (n - 8) (drop (i + 1) ws) ≡ spelt n (drop i ws)
   unfolding spelt

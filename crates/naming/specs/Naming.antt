@@ -1,4 +1,4 @@
--- What the number of a name stands for, and what the functions that append say. Assumes nothing.
+-- What the number of a name represents, and what the functions that append say. Assumes nothing.
 use mathlib.Core.Path.{_≡_}
 use mathlib.Core.List.{List}
 use Prim.Native.Nat.{ℕ, _≤_}
@@ -13,11 +13,11 @@ use Rattle.output.specs.Sink.{Room, Wrote}
 use Rattle.fixed_names.proofs.FixedNames.{fixed-swift, fixed-any-object, fixed-optional, fixed-associated-type, fixed-past}
 use Rattle.records.specs.Holds.{Fixed, Names}
 
--- the fixed names that operators use of themselves are among the fixed names
+-- the fixed names that operators use are among the fixed names
 pub known : Fixed fixed
 known = record { swift = fixed-swift; any-object = fixed-any-object; optional = fixed-optional; associated-type = fixed-associated-type; past = fixed-past }
 
--- the words that identifiers may look for, and all that are noted by now
+-- the words that identifiers may use, and all that are noted so far
 pub record Noted : Type 0 where
   pub words : List Name
   pub all : List Name
@@ -29,16 +29,16 @@ noted words all = record { words = words; all = all }
 abbrev pub names-of : Text → Noted → Names
 names-of text ws = record { text = text; words = ws .words; noted = ws .all; fixed = fixed; known = known }
 
--- where the words are those of a table, and no others are noted
+-- the words are those of a table, and no others are noted
 abbrev pub naming : Text → Words → Names
 naming text w = names-of text (noted (table text w) (table text w))
 
--- the text is short enough, and the words lie in it
+-- the text is short enough, and the words are in it
 pub record Known (text : Text) (w : Words) : Type 0 where
   pub short : length text ≤ 65535
   pub fitting : Fitting text w
 
--- Is tells the texts that may be meant: whichever it is, that text is appended to o at `at`
+-- Is holds for the texts that may be meant. Whichever it is, that text is appended to o at `at`
 pub record Puts (Is : Name → Type 0) (room : ℕ) (o o' : List ℕ) (at r : ℕ) : Type 0 where
   pub next : Room room o' r
   pub len : length o' ≡ length o
@@ -49,7 +49,7 @@ pub record Some (Is : Name → Type 0) : Type 0 where
   pub text : Name
   pub is : Is text
 
--- the fixed name of the number n is this one, and no other number has it
+-- the fixed name with number n is this one, and no other number has it
 pub record Alone (n : ℕ) (name : Name) : Type 0 where
   pub is : bytes (fixed n) ≡ name
   pub only : (m : ℕ) → same (bytes (fixed m)) name ≡ eqb m n

@@ -1,4 +1,5 @@
-// The leaves of the printer: fixed texts, numbers, the names of generic parameters, and names by their numbers.
+// The leaves of the printer: fixed texts, numbers, the names of generic parameters, and names given
+// by their numbers.
 ghost use mathlib.Core.Path.{_≡_};
 ghost use Prim.Native.Nat.{_+_, _*_, _≤_, _<_};
 ghost use mathlib.Core.List.{_∷_, []};
@@ -24,7 +25,7 @@ use output::store_word;
 use spelling::name_is;
 use spelling::put_name;
 
-// Stores the first len bytes of the words from first on.
+// Stores the first len bytes of the words that start at word `first`.
 fn store_words(out: &mut [u8], at: usize, first: usize, len: usize)
     requires { ⌜ at + len ≤ length (now out) ⌝ }
     requires { ⌜ 8 * first + len ≤ 8 * word-count ⌝ }
@@ -42,7 +43,8 @@ fn store_words(out: &mut [u8], at: usize, first: usize, len: usize)
     store_low(out, place, left, word(i));
 }
 
-// Appends the name or text of that number in the one row of both. Where it does not end within the slice, none of its words is looked at.
+// Appends the name or text with number n in the row that both share. If it does not end within the
+// slice, none of its words is read.
 fn put_numbered(out: &mut [u8], at: usize, room: usize, n: usize) -> usize
     requires { ⌜ Room room (now out) at ⌝ }
     ensures { λ r. ⌜ Wrote room (now (out .entry)) (now (out .exit)) at (bytes (numbered n)) r ⌝ }
@@ -62,8 +64,8 @@ fn put_numbered(out: &mut [u8], at: usize, room: usize, n: usize) -> usize
     end
 }
 
-// The byte of a text that is one byte, and 0 for the others, of which the contract says nothing: the rare `_` and `"` are among these, since the match is a
-// short table without them.
+// Returns the byte of a text of one byte, and 0 for the others, about which the contract says
+// nothing. The rare `_` and `"` are among these, because without them the match is a short table.
 fn one_byte(n: usize) -> u8
     ensures { λ r. ⌜ (0 < r → text-of n ≡ r ∷ []) ⌝ }
 {
@@ -80,7 +82,7 @@ fn one_byte(n: usize) -> u8
     }
 }
 
-// Appends the text of that number. One byte is put as it is, without a look into the words.
+// Appends the text with number n. A text of one byte is put directly, without reading the words.
 pub fn put_text(out: &mut [u8], at: usize, room: usize, n: usize) -> usize
     requires { ⌜ Room room (now out) at ⌝ }
     requires { ⌜ n < 37 ⌝ }
@@ -93,7 +95,7 @@ pub fn put_text(out: &mut [u8], at: usize, room: usize, n: usize) -> usize
     put_numbered(out, at, room, 134 + n)
 }
 
-// Appends the text of that number before each element but the first.
+// Appends the text with number n before each element except the first.
 pub fn put_sep(out: &mut [u8], at: usize, room: usize, i: usize, n: usize) -> usize
     requires { ⌜ Room room (now out) at ⌝ }
     requires { ⌜ n < 37 ⌝ }
@@ -105,7 +107,8 @@ pub fn put_sep(out: &mut [u8], at: usize, room: usize, i: usize, n: usize) -> us
     put_text(out, at, room, n)
 }
 
-// Appends the names of so many generic parameters, with `, ` between them, and stops once past room.
+// Appends the names of `count` generic parameters, with `, ` between them, and stops once past
+// room.
 pub fn put_param_names(out: &mut [u8], at: usize, room: usize, count: usize) -> usize
     requires { ⌜ Room room (now out) at ⌝ }
     ensures { λ r. ⌜ Wrote room (now (out .entry)) (now (out .exit)) at (join ", " (param-names count 0)) r ⌝ }
@@ -123,7 +126,7 @@ pub fn put_param_names(out: &mut [u8], at: usize, room: usize, count: usize) -> 
     r
 }
 
-// Appends what stands between a function's parameters and its result, but for the arrow.
+// Appends what is printed between the parameters of a function and its result, without the arrow.
 pub fn put_effects(
     out: &mut [u8],
     at: usize,
@@ -157,7 +160,7 @@ pub fn put_suspend_resume(out: &mut [u8], at: usize, room: usize, index: usize) 
     put_text(out, s, room, 34)
 }
 
-// Appends the fixed name of that number.
+// Appends the fixed name with number n.
 pub fn put_fixed(out: &mut [u8], at: usize, room: usize, n: usize) -> usize
     requires { ⌜ Room room (now out) at ⌝ }
     ensures { λ r. ⌜ Wrote room (now (out .entry)) (now (out .exit)) at (bytes (fixed n)) r ⌝ }
@@ -168,7 +171,8 @@ pub fn put_fixed(out: &mut [u8], at: usize, room: usize, n: usize) -> usize
     at
 }
 
-// Appends the name that the number k stands for: the identifier at that offset of the text, or from 65,536 on a fixed name.
+// Appends the name that the number k represents: the identifier at that offset of the text, or,
+// from 65,536 on, a fixed name.
 pub fn put_named(
     out: &mut [u8],
     at: usize,
@@ -190,7 +194,8 @@ pub fn put_named(
     put_fixed(out, at, room, k - 65536)
 }
 
-// Whether the name that the number k stands for is the fixed name of the number n, whose bytes are given too.
+// Whether the name that the number k represents is the fixed name with number n, whose bytes are
+// also given.
 pub fn named_is(
     text: &[u8],
     starts: &[u16; 26],

@@ -23,11 +23,11 @@ use Rattle.nodes.proofs.ByKind.{params-of}
 use Rattle.nodes.proofs.Taking.{less-spare}
 use Rattle.nodes.proofs.Leaving.{keeps-then, beyond-then}
 
--- f is refused for want of a node, and nothing past 64 × N changes
+-- f is refused because a node is missing, and nothing past 64 × N changes
 abbrev pub Not : Run Node → (w w₁ : List ℕ) (N : ℕ) (st : State) → Type 0
 Not f w w₁ N st = ((nm : Names) (sp : Spare) (m : Demangler) → Holds nm w N st sp m → f m ≡ refused 10) × Beyond 64 N w w₁
 
--- the size of a new record, where some machine has a node to spare for it
+-- the size of a new record, if some machine has a node to spare for it
 new-size : {f : Run Node} {gain : ℕ} {nm : Names} {w : List ℕ} {N p : ℕ} {u : State} {sp : Spare} {m : Demangler} → Given f gain nm w N p u sp m → at w p 1 ≤ 262144
 new-size o = let h = o .holds in omega (arith, h .small, h .charged, h .light, o .lies .size-is)
 
@@ -73,7 +73,7 @@ between-first t y a = (λ nm sp m h. rw (a .0 nm sp m h) refl, a .1)
 pub between-second : {w w₁ w₂ : List ℕ} {N : ℕ} {st u : State} {p : ℕ} (t y : Bool) → Gives R.function-params 1 w w₁ N st p u → Not R.function-params w₁ w₂ N u → Not (between t y) w w₂ N st
 between-second t y a b = (λ nm sp m h. let c = a .gives nm sp m h in rw (c .is, b .0 nm (taken 1 (size (c .tree)) sp) (c .machine) (c .holds)) refl, beyond-then (a .keeps) (b .1))
 
--- behind a wrap and the effects
+-- after a wrap and the effects
 module _ {w : List ℕ} (w₁ : List ℕ) {N : ℕ} {st u : State} {t y : Marked} where
   pub function-built : (r : Built) → WrapsTo w N st u → Marks (R.took 33) w N u t → Marks (R.took 34) w N (t .next) y → Builds (between (t .taken) (y .taken)) 1 0 w w₁ N (y .next) r → Builds R.function-type 1 0 w w₁ N st r
   unfolding R.function-type

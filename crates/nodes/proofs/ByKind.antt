@@ -91,7 +91,7 @@ list-of Async h = absurd h
 list-of (LazyWitness w t c) h = absurd h
 list-of (AssociatedConformance a q n r) h = absurd h
 
--- no tree is of size 0
+-- no tree has size 0
 pub positive : (x : Node) → 1 ≤ size x
 unfolding size
 positive (Identifier n) = omega arith
@@ -128,7 +128,7 @@ positive Async = omega arith
 positive (LazyWitness w t c) = omega arith
 positive (AssociatedConformance a q n r) = omega arith
 
--- a tuple's elements, else 1
+-- the elements of a tuple, otherwise 1
 pub params-of : (x : Node) → param-count x ≡ (if eqb (kind x) K.tuple then count x else 1)
 unfolding kind nominal-kind view count param-count
 params-of (Identifier n) = refl

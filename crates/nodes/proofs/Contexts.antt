@@ -32,7 +32,7 @@ module _ {w : List ℕ} {N : ℕ} {st u : State} {p : ℕ} (t : Took w N st p u)
   unfolding R.context M.pop M.pop-if M.pop-from
   context-from m x xs e = rw (e, context-in-is x) refl
 
-  -- a context as it stands
+  -- a context as it is
   pub context-direct : Ready w N st nothing-spare → K.is-identifier (at w p 0) ≡ false → K.is-context (at w p 0) ≡ true → Gives R.context 1 w w N st p u
   context-direct r a b = record {
     below = subst (λ (n : ℕ). p < n) (sym (t .top)) (took-below t r);
@@ -58,7 +58,7 @@ module _ {w : List ℕ} {N : ℕ} {st u : State} {p : ℕ} (t : Took w N st p u)
       let k : at w p 0 ≡ kind (g .tree) = g .lies .kind-is in
       context-from m (g .tree) (g .rest) (g .is) ∙ rw (ap K.is-identifier (sym k) ∙ a, ap K.is-context (sym k) ∙ b) refl
 
-  -- an identifier stands for a module of its name: a record more
+  -- an identifier represents a module of its name: one more record
   pub context-module : {w′ : List ℕ} {v : State} (name : ℕ) → name ≡ at w p 3 → Ready w N st nothing-spare → K.is-identifier (at w p 0) ≡ true →
       Grew w w′ N u v (1 ∷ 1 ∷ 0 ∷ name ∷ 0 ∷ 0 ∷ 0 ∷ 0 ∷ []) → Gives R.context 1 w w′ N st (u .top) v
   unfolding kind size count view
@@ -88,7 +88,7 @@ pub context-empty : (m : Demangler) → m .stack ≡ [] → R.context m ≡ refu
 unfolding R.context M.pop M.pop-if M.pop-from
 context-empty m e = rw e refl
 
--- what is taken as a context is of a context's kind
+-- what is taken as a context has the kind of a context
 pub context-kind : (m m₁ : Demangler) (x : Node) → R.context m ≡ ok x m₁ → T (K.is-context (kind x))
 unfolding R.context M.pop M.pop-if M.pop-from kind
 context-kind m m₁ x = of (m .stack)

@@ -1,4 +1,4 @@
--- A new record on the stack, and one wrap more.
+-- A new record on the stack, and one more wrap.
 use mathlib.Core.Path.{_≡_, refl, sym, ap, _∙_, subst}
 use mathlib.Core.Bool.{Bool, true, false}
 use mathlib.Core.List.{List}
@@ -123,7 +123,7 @@ pub wraps-refused : (st : State) (n : ℕ) → B.wrap (budget-of (st .budget)) �
 unfolding M.wrap M.spend
 wraps-refused st n e nm w N sp m h = let r : B.wrap (budget-of (st .budget)) ≡ refused 8 = wrap-refusal (budget-of (st .budget)) n e in rw (← (h .budget), r) refl
 
--- an arm's answer about a budget
+-- the result of an arm about a budget
 pub spent-left : {out : Out B.Budget Done} {r : Spent} (b : Budget) → r ≡ Spent.Left b → Spending out r → out ≡ ok tt (budget-of b)
 spent-left {out} b e h = subst (λ (x : Spent). Spending out x) e h
 

@@ -36,7 +36,7 @@ module _ {f : Run Node} {gain : ℕ} {w w₁ : List ℕ} {N : ℕ} {st u : State
   pub given-room : Inside w₁ N u 5 1 0
   given-room = let h = given .holds in record { small = h .small; long = h .long; charged = h .charged; room = omega (arith, h .room); deep = omega (arith, h .deep); kept = omega (arith, h .kept) }
 
--- an arm's answer of what takes a tree
+-- the result of an arm that takes a tree
 pub taken-place : (f : Run Node) (gain : ℕ) {w w′ : List ℕ} {N : ℕ} {st : State} {r : Popped} (p : ℕ) (u : State) → r ≡ Popped.Place p u → Takes f gain w w′ N st r → Gives f gain w w′ N st p u
 taken-place f gain {w} {w′} {N} {st} p u e h = subst (λ (x : Popped). Takes f gain w w′ N st x) e h
 
@@ -46,7 +46,7 @@ taken-nothing f gain {w} w′ {N} {st} e h = subst (λ (x : Popped). Takes f gai
 pub taken-not : (f : Run Node) (gain : ℕ) {w w′ : List ℕ} {N : ℕ} {st : State} {r : Popped} → r ≡ Popped.Nothing → Takes f gain w w′ N st r → ((nm : Names) (sp : Spare) (m : Demangler) → Holds nm w N st sp m → f m ≡ refused 10) × Beyond 64 N w w′
 taken-not f gain {w} {w′} {N} {st} e h = subst (λ (x : Popped). Takes f gain w w′ N st x) e h
 
--- an arm's answer of `wrap`
+-- the result of an arm of `wrap`
 pub wrapped-next : {st : State} {r : WrapSpent} (u : State) → r ≡ WrapSpent.Next u → ((w : List ℕ) (N : ℕ) → Wraps w N st r) → (w : List ℕ) (N : ℕ) → WrapsTo w N st u
 wrapped-next {st} u e h w N = subst (λ (x : WrapSpent). Wraps w N st x) e (h w N)
 

@@ -58,7 +58,7 @@ module _ {w : List ℕ} {N : ℕ} {st : State} where
 
 -- THE PARAMETERS OF A FUNCTION TYPE
 module _ {w : List ℕ} {N : ℕ} {st : State} where
-  -- none: a record more
+  -- none: one more record
   pub params-empty : {w₁ : List ℕ} {p : ℕ} {u v : State} → GivesIf (R.try (eqb 30)) w N st p u → Grew w w₁ N u v (9 ∷ 1 ∷ 0 ∷ 0 ∷ 0 ∷ 0 ∷ 0 ∷ 0 ∷ []) → Gives R.function-params 1 w w₁ N st (u .top) v
   unfolding R.function-params M.took is-some kind size sizes many count view
   params-empty {w₁} {p} {u} {v} a g = record {

@@ -47,7 +47,7 @@ in-name x m e = rw (protocol-in-is x, e) refl
 in-other : (x : Node) (m : Demangler) → K.is-protocol (kind x) ≡ false → eqb (kind x) 15 ≡ false → K.is-identifier (kind x) ≡ false → R.protocol-in x m ≡ refused 10
 in-other x m a b c = rw (protocol-in-is x, a, b, c) refl
 
--- the one member of a list
+-- the only member of a list
 pub record Member (x y : Node) : Type 0 where
   pub is : the-member x ≡ y
   pub smaller : size y < size x
@@ -71,7 +71,7 @@ member (cons l n nil) e = (
 )
 
 module _ {w : List ℕ} {N : ℕ} {st u : State} {p : ℕ} (t : Took w N st p u) (r : Ready w N st nothing-spare) where
-  -- as it stands
+  -- as it is
   pub protocol-direct : at w p 0 ≡ 5 → Gives R.protocol 2 w w N st p u
   protocol-direct a = record {
     below = subst (λ (n : ℕ). p < n) (sym (t .top)) (took-below t r);
@@ -140,7 +140,7 @@ module _ {w : List ℕ} {N : ℕ} {st u : State} {p : ℕ} (t : Took w N st p u)
       let k : at w p 0 ≡ kind (g .tree) = g .lies .kind-is in
       protocol-from m (g .tree) (g .rest) (g .is) ∙ in-other (g .tree) (restack (g .rest) m) (ap (λ (i : ℕ). eqb i 5) (sym k) ∙ a) (ap (λ (i : ℕ). eqb i 15) (sym k) ∙ b) (ap (λ (i : ℕ). eqb i 0) (sym k) ∙ c)
 
-  -- a name over a context: a record more
+  -- a name over a context: one more record
   pub protocol-named : {w₁ w₂ : List ℕ} {v v₁ : State} {q : ℕ} (name z c : ℕ) → name ≡ at w p 3 → z ≡ at w₁ q 1 + 1 → c ≡ q → at w p 0 ≡ 0 → Gives R.context 1 w w₁ N u q v →
       Grew w₁ w₂ N v v₁ (5 ∷ z ∷ 0 ∷ name ∷ c ∷ 0 ∷ 0 ∷ 0 ∷ []) → Gives R.protocol 2 w w₂ N st (v .top) v₁
   unfolding kind nominal-kind size count view

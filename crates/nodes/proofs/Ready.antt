@@ -1,4 +1,5 @@
--- What there is to spare on the way through an operator: each call's contract carries a machine that lies there over to the state behind it.
+-- What there is to spare during an operator: the contract of each call carries a machine that the
+-- workspace holds over to the state after the call.
 use mathlib.Core.Path.{_≡_, refl}
 use mathlib.Core.List.{List}
 use Prim.Native.Nat.{ℕ, _+_, _-_, _*_, _^_, _≤_, _<_}
@@ -28,7 +29,7 @@ module _ {w : List ℕ} {N : ℕ} {st : State} where
   pub room : {sp : Spare} {makes pushes keeps : ℕ} → makes ≤ sp .makes → pushes ≤ sp .pushes → keeps ≤ sp .keeps → Ready w N st sp → Inside w N st makes pushes keeps
   room a b c r = let h = r .holds in record { small = h .small; long = h .long; charged = h .charged; room = omega (arith, h .room); deep = omega (arith, h .deep); kept = omega (arith, h .kept) }
 
-  -- a record below top lies in the workspace
+  -- a record below top is in the workspace
   pub inside-record : {sp : Spare} (p : ℕ) → p < st .top → Ready w N st sp → 8 * p + 8 ≤ length w
   inside-record p l r = let h = r .holds in omega (arith, h .long, h .charged, h .room)
 
@@ -71,7 +72,7 @@ module _ {w : List ℕ} {N : ℕ} {st : State} {sp : Spare} where
       let g = t .gives (r .names) sp (r .machine) (r .holds) in
       record { names = r .names; machine = restack (g .rest) (r .machine); holds = less-spare (taken 3 (size (g .tree)) sp) (taken 3 0 sp) (omega arith) (omega arith) (omega arith) (omega arith) (g .holds) }
 
--- a tree that was taken, behind the next take
+-- a tree that was taken, after the next take
 module _ {f g : Run Node} {a b : ℕ} {w w₁ w₂ : List ℕ} {N : ℕ} {st u v : State} {p q : ℕ} (x : Gives f a w w₁ N st p u) (y : Gives g b w₁ w₂ N u q v) where
   pub less-below : p < v .top
   less-below = omega (arith, x .below, y .rising)

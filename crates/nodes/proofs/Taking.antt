@@ -86,7 +86,7 @@ pub pop-if-empty : (want : ℕ → Bool) (m : Demangler) → m .stack ≡ [] →
 unfolding M.pop-if M.pop-from
 pop-if-empty want m e = rw e refl
 
--- an arm's answer of `pop`
+-- the result of an arm of `pop`
 pub popped : {w : List ℕ} {N : ℕ} {st : State} {r : Popped} (p : ℕ) (u : State) → r ≡ Popped.Place p u → Pops w N st r → Took w N st p u
 popped {w} {N} {st} p u e h = subst (λ (x : Popped). Pops w N st x) e h
 
@@ -157,7 +157,7 @@ pub name-empty : (m : Demangler) → m .stack ≡ [] → R.pop-name m ≡ refuse
 unfolding R.pop-name M.pop M.pop-if M.pop-from
 name-empty m e = rw e refl
 
--- an arm's answer of what may be missing
+-- the result of an arm for what may be missing
 pub tried : (f : Run (Option Node)) {w : List ℕ} {N : ℕ} {st : State} {r : Popped} (p : ℕ) (u : State) → r ≡ Popped.Place p u → Tries f w N st r → GivesIf f w N st p u
 tried f {w} {N} {st} p u e h = subst (λ (x : Popped). Tries f w N st x) e h
 

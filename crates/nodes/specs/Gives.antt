@@ -1,4 +1,5 @@
--- What code says that takes a tree from the stack, and what an operator's code says, of the definition's steps.
+-- What code that takes a tree from the stack says, and what the code of an operator says, about the
+-- definition's steps.
 use mathlib.Core.Path.{_≡_}
 use mathlib.Core.Bool.{Bool}
 use mathlib.Core.List.{List, [], _∷_, _++_}
@@ -34,11 +35,11 @@ spare a b c d = record { makes = a; pushes = b; nodes = c; keeps = d }
 abbrev pub nothing-spare : Spare
 nothing-spare = spare 0 0 0 0
 
--- what there is to spare after a tree of size z was taken, which gave back so many half records
+-- what there is to spare after a tree of size z was taken, which gave back `gain` half records
 abbrev pub taken : (gain z : ℕ) → Spare → Spare
 taken gain z sp = spare (sp .makes + gain) (sp .pushes + 1) (sp .nodes + z) (sp .keeps)
 
--- the step f took the tree that lies at p, and the machine after it lies in w with u
+-- the step f took the tree that is stored at p, and w holds the machine after it with u
 pub record Given (f : Run Node) (gain : ℕ) (nm : Names) (w : List ℕ) (N p : ℕ) (u : State) (sp : Spare) (m : Demangler) : Type 0 where
   pub tree : Node
   pub machine : Demangler
@@ -50,7 +51,7 @@ pub record Given (f : Run Node) (gain : ℕ) (nm : Names) (w : List ℕ) (N p : 
 abbrev pub most : ℕ
 most = 262144
 
--- whatever machine lay in w
+-- for any machine that w held
 pub record Gives (f : Run Node) (gain : ℕ) (w w′ : List ℕ) (N : ℕ) (st : State) (p : ℕ) (u : State) : Type 0 where
   pub below : p < u .top
   pub deep : u .depth < st .depth
@@ -69,7 +70,7 @@ abbrev pub Takes : Run Node → (gain : ℕ) → (w w′ : List ℕ) (N : ℕ) (
 Takes f gain w w′ N st (Popped.Place p u) = Gives f gain w w′ N st p u
 Takes f gain w w′ N st Popped.Nothing = ((nm : Names) (sp : Spare) (m : Demangler) → Holds nm w N st sp m → f m ≡ refused 10) × Beyond 64 N w w′
 
--- a tree that is made of what is taken: so many nodes more than were taken
+-- a tree that is made of what is taken: that many more nodes than were taken
 abbrev pub for-nodes : ℕ → Spare → Spare
 for-nodes z sp = spare (sp .makes) (sp .pushes) (sp .nodes + z) (sp .keeps)
 
@@ -85,7 +86,7 @@ abbrev pub Builds : Run Node → (own gain : ℕ) → (w w′ : List ℕ) (N : �
 Builds f own gain w w′ N st (Built.Place p u) = Building f own gain w w′ N st p u
 Builds f own gain w w′ N st (Built.Refused r) = ((nm : Names) (sp : Spare) (m : Demangler) → Holds nm w N st sp m → f m ≡ refused (number r)) × Beyond 64 N w w′
 
--- a tree that may be missing: f takes it, or leaves the machine as it is
+-- a tree that may be missing: f takes it, or leaves the machine unchanged
 pub record GivenIf (f : Run (Option Node)) (nm : Names) (w : List ℕ) (N p : ℕ) (u : State) (sp : Spare) (m : Demangler) : Type 0 where
   pub tree : Node
   pub machine : Demangler
@@ -110,7 +111,7 @@ pub record Marks (f : Run Bool) (w : List ℕ) (N : ℕ) (st : State) (r : Marke
   pub top : r .next .top ≡ st .top
   pub gives : (nm : Names) (sp : Spare) (m : Demangler) → Holds nm w N st sp m → (m′ : Demangler) × (f m ≡ ok (r .taken) m′) × Holds nm w N (r .next) sp m′
 
--- a name: its number stands for what the step f gives
+-- a name: its number represents what the step f gives
 pub record GivenName (f : Run Name) (nm : Names) (w : List ℕ) (N k : ℕ) (u : State) (sp : Spare) (m : Demangler) : Type 0 where
   pub name : Name
   pub machine : Demangler
@@ -131,17 +132,18 @@ TakesName f w N st NameTaken.Nothing = (nm : Names) (sp : Spare) (m : Demangler)
 abbrev pub full-spare : Spare
 full-spare = spare 15 1 4 1
 
--- an operator, by the fixed names
+-- an operator, given the fixed names
 abbrev pub Performed : Type 0
 Performed = (ℕ → String) → Run Done
 
--- the operator f ended with the machine that lies in w with u
+-- the operator f ended with the machine that w holds with u
 pub record Ran (f : Run Done) (nm : Names) (w : List ℕ) (N : ℕ) (u : State) (m : Demangler) : Type 0 where
   pub machine : Demangler
   pub is : f m ≡ ok tt machine
   pub holds : Holds nm w N u nothing-spare machine
 
--- what an operator's code does, whatever machine lay in w: the machine that f gives lies in w′, or f is refused with the same number
+-- what the code of an operator does, for any machine that w held: w′ holds the machine that f
+-- gives, or f is refused with the same number
 abbrev pub Runs : Performed → (w w′ : List ℕ) (N : ℕ) (st : State) → Step → Type 0
 Runs f w w′ N st (Step.Done u) = (nm : Names) (m : Demangler) → Fixed (nm .fixed) → Holds nm w N st full-spare m → Ran (f (nm .fixed)) nm w′ N u m
 Runs f w w′ N st (Step.Refused r) = (nm : Names) (m : Demangler) → Fixed (nm .fixed) → Holds nm w N st full-spare m → f (nm .fixed) m ≡ refused (number r)
@@ -159,7 +161,7 @@ low-half x = x % 4294967296
 abbrev pub high-half : ℕ → ℕ
 high-half x = x / 4294967296
 
--- a node was made, which costs so many half records: what it is by the fixed names
+-- a node was made, which costs `cost` half records; x is the node, given the fixed names
 pub record Makes (x : (ℕ → String) → Node) (cost : ℕ) (w w′ : List ℕ) (N : ℕ) (st : State) (r : Placed) : Type 0 where
   pub below : r .place < r .next .top
   pub rising : st .top ≤ r .next .top
@@ -171,20 +173,20 @@ pub record Makes (x : (ℕ → String) → Node) (cost : ℕ) (w w′ : List ℕ
   pub lies : (nm : Names) → Fixed (nm .fixed) → Lies (Named nm) (x (nm .fixed)) w′ (r .place)
   pub holds : (nm : Names) (sp : Spare) (m : Demangler) → Holds nm w N st (spare (sp .makes + cost) (sp .pushes) (sp .nodes) (sp .keeps)) m → Holds nm w′ N (r .next) sp m
 
--- a new record was pushed: whatever tree x it is
+-- a new record was pushed: for any tree x that it is
 pub record Left (w w′ : List ℕ) (N : ℕ) (st u : State) (vs : List ℕ) : Type 0 where
   pub holds : (nm : Names) (sp : Spare) (m : Demangler) (x : Node) → Holds nm w N st (for-record (for-push (size x) sp)) m → Would (Named nm) x (λ i. getD vs i 0) w (st .top) → Holds nm w′ N u sp (restack (x ∷ m .stack) m)
   pub made : (nm : Names) (x : Node) → Would (Named nm) x (λ i. getD vs i 0) w (st .top) → Lies (Named nm) x w′ (st .top)
   pub state : u ≡ record { budget = st .budget; top = st .top + 1; depth = st .depth + 1; seen = st .seen }
   pub keeps : Keeps w w′ N (st .top)
 
--- a new record was pushed and is remembered: whatever tree x it is
+-- a new record was pushed and is remembered: for any tree x that it is
 pub record Kept (w w′ : List ℕ) (N : ℕ) (st u : State) (vs : List ℕ) : Type 0 where
   pub holds : (nm : Names) (sp : Spare) (m : Demangler) (x : Node) → Holds nm w N st (for-record (for-keeping (for-push (size x) sp))) m → Would (Named nm) x (λ i. getD vs i 0) w (st .top) →
       Holds nm w′ N u sp (machine (m .budget) (x ∷ m .stack) (m .substitutions ++ (x ∷ [])) (m .words))
   pub keeps : Keeps w w′ N (st .top)
 
--- one wrap more: only the budget's wraps change
+-- one more wrap: only the wraps of the budget change
 pub record WrapsTo (w : List ℕ) (N : ℕ) (st u : State) : Type 0 where
   pub top : u .top ≡ st .top
   pub depth : u .depth ≡ st .depth
@@ -203,10 +205,10 @@ pub record OneChild (k : ℕ) (c : Node → Node) : Type 0 where
   pub count-is : (x : Node) → count (c x) ≡ 0
   pub body : (nm : Names) (x : Node) (f : ℕ → ℕ) (w : List ℕ) (p : ℕ) → Child f p 3 (λ q. Lies (Named nm) x w q) → Body (Named nm) (c x) f w p
 
--- behind a function type's effects: its parameters and its result
+-- after the effects of a function type: its parameters and its result
 abbrev pub between : (throws is-async : Bool) → Run Node
 between t a = function-params >>= λ p. function-params >>= λ r. ret (FunctionType p r t a)
 
--- a node c over the top, if it is of a kind that is wanted
+-- a node c over the top, if its kind is wanted
 abbrev pub over : (ℕ → Bool) → (Node → Node) → Performed
 over want c fixed = pop-if want >>= λ x. push (c x)

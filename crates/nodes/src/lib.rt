@@ -1,4 +1,5 @@
-// What operators take from the stack and leave there, on records; the operators that put one node over the top.
+// What operators take from the stack and push on it, on records; and the operators that put one
+// node over the top.
 ghost use mathlib.Core.Path.{_≡_};
 ghost use mathlib.Core.List.{List, [], _∷_};
 ghost use Prim.Native.Nat.{ℕ, _+_, _*_, _≤_, _<_};
@@ -36,31 +37,31 @@ pub enum NameTaken {
     Nothing,
 }
 
-// The place of a tree that is made of what is taken, and the state then.
+// The place of a tree that is made of what was taken, and the state after that.
 pub enum Built {
     Place(usize, State),
     Refused(Refusal),
 }
 
-// The place of a node that is made, and the state then.
+// The place of a node that was made, and the state after that.
 pub struct Placed {
     pub place: usize,
     pub next: State,
 }
 
-// What an operator comes to.
+// The result of an operator.
 pub enum Step {
     Done(State),
     Refused(Refusal),
 }
 
-// The state after one wrap more.
+// The state after one more wrap.
 pub enum WrapSpent {
     Next(State),
     Refused,
 }
 
-// The top, if it is of a kind that is wanted; else nothing is taken.
+// Takes the top, if its kind is wanted. Otherwise nothing is taken.
 pub fn pop_if(ws: &[u32], n: usize, st: State, want: Want) -> Popped
     requires { ⌜ Ready (now ws) n st nothing-spare ⌝ }
     ensures { λ r. ⌜ Takes (R.pop-if (want-of want)) 3 (now (ws .entry)) (now (ws .entry)) n st r × Tries (R.try (want-of want)) (now (ws .entry)) n st r ⌝ }
@@ -76,7 +77,7 @@ pub fn pop_if(ws: &[u32], n: usize, st: State, want: Want) -> Popped
     }
 }
 
-// The context on top: a module (an identifier alone is one), a type or an entity.
+// Takes the context on top: a module (an identifier alone is one), a type or an entity.
 pub fn context(ws: &mut [u32], n: usize, st: State) -> Popped
     requires { ⌜ Ready (now ws) n st nothing-spare ⌝ }
     ensures { λ r. ⌜ Takes R.context 1 (now (ws .entry)) (now (ws .exit)) n st r ⌝ }
@@ -105,7 +106,7 @@ pub fn context(ws: &mut [u32], n: usize, st: State) -> Popped
     }
 }
 
-// The place of the first member of the list of protocols at place p.
+// Returns the place of the first member of the list of protocols at place p.
 fn first_member(ws: &[u32], p: usize) -> usize
     requires { ⌜ (8 * p + 8 ≤ length (now ws)) × (at (now ws) p 3 < p) ⌝ }
     ensures { λ r. ⌜ r ≡ at (now (ws .entry)) (at (now (ws .entry)) p 3) 4 ⌝ }
@@ -114,7 +115,8 @@ fn first_member(ws: &[u32], p: usize) -> usize
     records::wide(records::field(ws, cell, 4))
 }
 
-// The protocol on top: one as it stands, the one member of a list, or a name over a context.
+// Takes the protocol on top: a protocol itself, the only member of a list, or a name over a
+// context.
 pub fn protocol(ws: &mut [u32], n: usize, st: State) -> Popped
     requires { ⌜ Ready (now ws) n st nothing-spare ⌝ }
     ensures { λ r. ⌜ Takes R.protocol 2 (now (ws .entry)) (now (ws .exit)) n st r ⌝ }
@@ -155,7 +157,7 @@ pub fn protocol(ws: &mut [u32], n: usize, st: State) -> Popped
     }
 }
 
-// Whether a node of that kind is on top, which is taken off.
+// Whether a node of that kind is on top. If so, it is removed.
 pub fn took(ws: &[u32], n: usize, st: State, kind: u32) -> Marked
     requires { ⌜ Ready (now ws) n st nothing-spare ⌝ }
     ensures { λ r. ⌜ Marks (R.took kind) (now (ws .entry)) n st r ⌝ }
@@ -172,7 +174,7 @@ pub fn took(ws: &[u32], n: usize, st: State, kind: u32) -> Marked
     }
 }
 
-// The name of the identifier on top.
+// Takes the name of the identifier on top.
 pub fn pop_name(ws: &[u32], n: usize, st: State) -> NameTaken
     requires { ⌜ Ready (now ws) n st nothing-spare ⌝ }
     ensures { λ r. ⌜ TakesName R.pop-name (now (ws .entry)) n st r ⌝ }
@@ -188,7 +190,7 @@ pub fn pop_name(ws: &[u32], n: usize, st: State) -> NameTaken
     }
 }
 
-// The name of a member type: a protocol that is on top is taken off first.
+// Takes the name of a member type. A protocol on top is removed first.
 pub fn assoc_type_name(ws: &[u32], n: usize, st: State) -> NameTaken
     requires { ⌜ Ready (now ws) n st nothing-spare ⌝ }
     ensures { λ r. ⌜ TakesName R.assoc-type-name (now (ws .entry)) n st r ⌝ }
@@ -199,7 +201,7 @@ pub fn assoc_type_name(ws: &[u32], n: usize, st: State) -> NameTaken
     }
 }
 
-// The parameters, or the result, of a function type: the empty list stands for no elements.
+// Takes the parameters, or the result, of a function type. The empty list represents no elements.
 pub fn function_params(ws: &mut [u32], n: usize, st: State) -> Popped
     requires { ⌜ Ready (now ws) n st nothing-spare ⌝ }
     ensures { λ r. ⌜ Takes R.function-params 1 (now (ws .entry)) (now (ws .exit)) n st r ⌝ }
@@ -220,7 +222,7 @@ pub fn function_params(ws: &mut [u32], n: usize, st: State) -> Popped
     }
 }
 
-// The number of a nominal's kind.
+// Returns the number of the kind of a nominal type.
 pub fn nominal_number(kind: NominalKind) -> u32
     ensures { λ r. ⌜ r ≡ Node.nominal-kind (Enums.nominal-kind kind) ⌝ }
 {
@@ -233,7 +235,7 @@ pub fn nominal_number(kind: NominalKind) -> u32
     }
 }
 
-// The number that stands for a fixed name. Past the last of them there is no name.
+// Returns the number that represents a fixed name. Past the last fixed name there is no name.
 pub fn fixed_number(name: usize) -> u32
     ensures { λ r. ⌜ ((nm : Names) → Fixed (nm .fixed) → Named nm r (bytes (nm .fixed name))) ⌝ }
 {
@@ -256,7 +258,7 @@ pub fn high(x: usize) -> u32
     (x / 4294967296) as u32
 }
 
-// A generic parameter.
+// Makes a generic parameter.
 pub fn generic_param(ws: &mut [u32], n: usize, st: State, p: Param) -> Placed
     requires { ⌜ Inside (now ws) n st 2 0 0 ⌝ }
     ensures { λ r. ⌜ Makes (λ _. R.generic-param (Enums.param p)) 2 (now (ws .entry)) (now (ws .exit)) n st r ⌝ }
@@ -275,7 +277,7 @@ pub fn generic_param(ws: &mut [u32], n: usize, st: State, p: Param) -> Placed
     }
 }
 
-// A type of the module Swift: the fixed name of that number.
+// Makes a type of the module Swift. Its name is the fixed name with that number.
 pub fn standard_nominal(
     ws: &mut [u32],
     n: usize,
@@ -318,7 +320,7 @@ pub fn flag(b: bool) -> u32
     0
 }
 
-// How many parameters a function type has whose parameters lie at place p.
+// Returns the number of parameters of a function type whose parameters are at place p.
 fn param_count(ws: &[u32], p: usize) -> u32
     requires { ⌜ 8 * p + 8 ≤ length (now ws) ⌝ }
     ensures { λ r. ⌜ r ≡ (if eqb (at (now (ws .entry)) p 0) K.tuple then at (now (ws .entry)) p 2 else 1) ⌝ }
@@ -329,7 +331,7 @@ fn param_count(ws: &[u32], p: usize) -> u32
     1
 }
 
-// Behind the effects of a function type: its parameters and its result.
+// Takes the parameters and the result of a function type, after its effects.
 fn between(ws: &mut [u32], n: usize, st: State, throws: bool, is_async: bool) -> Built
     requires { ⌜ Ready (now ws) n st (spare 0 0 1 0) ⌝ }
     ensures { λ r. ⌜ Builds (Gives.between throws «is_async») 1 0 (now (ws .entry)) (now (ws .exit)) n st r ⌝ }
@@ -355,7 +357,7 @@ fn between(ws: &mut [u32], n: usize, st: State, throws: bool, is_async: bool) ->
     }
 }
 
-// A function type: one wrap more, its effects, its parameters and its result.
+// Takes a function type: counts one wrap, then its effects, its parameters and its result.
 pub fn function_type(ws: &mut [u32], n: usize, st: State) -> Built
     requires { ⌜ Ready (now ws) n st (spare 0 0 1 0) ⌝ }
     ensures { λ r. ⌜ Builds R.function-type 1 0 (now (ws .entry)) (now (ws .exit)) n st r ⌝ }
@@ -370,7 +372,7 @@ pub fn function_type(ws: &mut [u32], n: usize, st: State) -> Built
     }
 }
 
-// A conformance: its home, its protocol and its type.
+// Takes a conformance: its home, its protocol and its type.
 pub fn conformance(ws: &mut [u32], n: usize, st: State) -> Built
     requires { ⌜ Ready (now ws) n st (spare 0 0 1 0) ⌝ }
     ensures { λ r. ⌜ Builds R.conformance 1 4 (now (ws .entry)) (now (ws .exit)) n st r ⌝ }
@@ -399,7 +401,7 @@ pub fn conformance(ws: &mut [u32], n: usize, st: State) -> Built
     }
 }
 
-// A new record on top of the stack.
+// Makes a new record and pushes it.
 pub fn push_new(
     ws: &mut [u32],
     n: usize,
@@ -417,7 +419,7 @@ pub fn push_new(
     records::push(ws, n, u, top)
 }
 
-// A new record on top of the stack, which is remembered.
+// Makes a new record, pushes it and remembers it.
 pub fn push_kept(
     ws: &mut [u32],
     n: usize,
@@ -436,7 +438,7 @@ pub fn push_kept(
     records::push(ws, n, v, top)
 }
 
-// One wrap more.
+// Counts one wrap.
 pub fn wrap(st: State) -> WrapSpent
     ensures { λ r. ⌜ ((w : List ℕ) (N : ℕ) → Wraps w N st r) ⌝ }
 {

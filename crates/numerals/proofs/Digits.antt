@@ -18,7 +18,7 @@ digit-step : (f m : ℕ) (t : Name) → ltb m 10 ≡ true → decimal-before (su
 unfolding decimal-before
 digit-step f m t e = rw (e, decimal-before)
 
--- and of any other the last digit is the remainder
+-- and for any other number the last digit is the remainder
 digits-step : (f m : ℕ) (t : Name) → ltb m 10 ≡ false → decimal-before (suc f) m t ≡ decimal-before f (m / 10) ((48 + m % 10) ∷ t)
 unfolding decimal-before
 digits-step f m t e = rw (e, decimal-before)

@@ -17,7 +17,7 @@ pub fn put_decimal(out: &mut [u8], at: usize, room: usize, n: usize) -> usize
     put_byte(out, r, room, 48 + (n % 10) as u8)
 }
 
-// Appends the letters of a generic parameter's name, the least first.
+// Appends the letters of the name of a generic parameter, the least significant first.
 pub fn put_letters(out: &mut [u8], at: usize, room: usize, index: usize) -> usize
     requires { ⌜ Room room (now out) at ⌝ }
     ensures { λ r. ⌜ Wrote room (now (out .entry)) (now (out .exit)) at (param-letters (index + 1) index) r ⌝ }
@@ -33,7 +33,7 @@ pub fn put_letters(out: &mut [u8], at: usize, room: usize, index: usize) -> usiz
     }
 }
 
-// Appends a generic parameter's name: its letters, then its depth if that is above 0.
+// Appends the name of a generic parameter: its letters, then its depth if that is above 0.
 pub fn generic_param_name(
     out: &mut [u8],
     at: usize,

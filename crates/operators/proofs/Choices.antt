@@ -1,4 +1,4 @@
--- The steps that choose by a letter, and the answers that stand for them. Assumes nothing.
+-- The steps that choose by a letter, and the results that represent them. Assumes nothing.
 use mathlib.Core.Path.{_≡_, ap, _∙_}
 use mathlib.Core.List.{List, [], _∷_}
 use mathlib.Core.Option.{Option, some, none}
@@ -22,7 +22,8 @@ use Rattle.letters.specs.declared.OperatorRead.{OperatorRead}
 use Rattle.letters.specs.declared.OperatorRead.the-variants as OperatorRead
 
 -- NO LETTER OF A TABLE
--- what is known where no arm of a match on b was taken, with an arm for each letter of the table, in its order: behind P, one refutation a letter
+-- what is known if no arm of a match on b was taken, with an arm for each letter of the table, in
+-- its order: P, followed by one refutation for each letter
 abbrev pub Past : {A : Type 0} → Type 0 → ℕ → List (Char × A) → Type 0
 Past P b [] = P
 Past P b (e ∷ es) = Past (P × (b ≡ code (e .0) → ⊥)) b es
@@ -34,12 +35,12 @@ past-all P b (e ∷ es) h = let r = past-all (P × (b ≡ code (e .0) → ⊥)) 
 pub past : {A : Type 0} (b : ℕ) (table : List (Char × A)) → Past (Unit {0}) b table → pick b table ≡ none
 past b table h = absent b table (past-all (Unit {0}) b table h .1)
 
--- in the arm of the letter k: b's entry is k's
+-- in the arm of the letter k: the entry of b is that of k
 pub letter : {A : Type 0} (table : List (Char × A)) {b k : ℕ} {a : A} → b ≡ k → pick k table ≡ some a → pick b table ≡ some a
 letter table e p = ap (λ (x : ℕ). pick x table) e ∙ p
 
 -- CHOICES
--- the byte b was read at the place `from`, and the cursor c stands behind it
+-- the byte b was read at the place `from`, and the cursor c is after it
 pub record Behind (text : Text) (from b : ℕ) (c : Cursor) : Type 0 where
   pub is : next (drop from text) ≡ ok b (drop (c .at) text)
   pub inside : c .at ≤ length text
@@ -57,7 +58,7 @@ module _ {A : Type 0} (table : List (Char × A)) {text : Text} {from b : ℕ} {c
   unfolding choose
   choose-is e = ap (λ o. and-then o (λ x. or-refuse 9 (pick x table))) (h .is) ∙ ap (λ o. or-refuse 9 o (drop (c .at) text)) e
 
--- a table of operators: in the arm of the letter k, and in that of no letter
+-- a table of operators: in the arm of the letter k, and in the arm of no letter
 module _ (table : List (Char × Operator)) {text : Text} {from b : ℕ} {c : Cursor} (h : Behind text from b c) where
   pub chosen : {k : ℕ} {q : Operator} → b ≡ k → pick k table ≡ some q → Stands (choose table (drop from text)) q text from c
   chosen e p = record { is = choose-is table h (letter table e p); inside = h .inside; onward = h .onward }
@@ -65,7 +66,7 @@ module _ (table : List (Char × Operator)) {text : Text} {from b : ℕ} {c : Cur
   pub no-choice : Past (Unit {0}) b table → choose table (drop from text) ≡ refused 9
   no-choice m = choose-is table h (past b table m)
 
--- a table of steps: the same, and an arm that goes on with a step
+-- a table of steps: the same, and an arm that continues with a step
 module _ (table : List (Char × Lex Operator)) {text : Text} {from b : ℕ} {c : Cursor} (h : Behind text from b c) where
   step-is : {k : ℕ} {m : Lex Operator} → b ≡ k → pick k table ≡ some m → choose-then table (drop from text) ≡ m (drop (c .at) text)
   unfolding choose-then
@@ -81,7 +82,7 @@ module _ (table : List (Char × Lex Operator)) {text : Text} {from b : ℕ} {c :
   unfolding choose-then
   no-choice-then m = ap (λ o. and-then o (λ m. m)) (choose-is table h (past b table m))
 
--- where there was no letter
+-- if there was no letter
 module _ (text : Text) (from : ℕ) (h : length text ≤ from) where
   pub choose-ended : {A : Type 0} (table : List (Char × A)) → choose table (drop from text) ≡ refused 9
   unfolding choose

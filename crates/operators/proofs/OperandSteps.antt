@@ -31,7 +31,7 @@ use Rattle.operators.specs.Answers.{Subjected}
 use Rattle.operators.specs.declared.SubjectRead.{SubjectRead}
 use Rattle.operators.specs.declared.SubjectRead.the-variants as SubjectRead
 
--- WHAT AN ANSWER SAYS THAT A MATCH TOOK APART
+-- WHAT A RESULT SAYS THAT A MATCH TOOK APART
 module _ (text : Text) (from : ℕ) where
   pub param-read : {o : Out Text Param} {r : ParamRead} {p : Code.Param} {c : Cursor} → r ≡ ParamRead.Read p c → Parameter o text from r → Stands o (Enums.param p) text (from + 1) c
   param-read {o} e h = let b = subst (Parameter o text from) e h in record { is = b .is; inside = b .inside; onward = b .onward }
@@ -100,7 +100,7 @@ module _ (text : Text) (at : ℕ) where
     unfolding requirement-letters
     requirement-none e = rw (front text at h, requirement-letters, e)
 
-  -- in the arm of a letter that goes on with a step
+  -- in the arm of a letter that continues with a step
   pub required : at < length text → {k : ℕ} {m : Lex Operator} → getD text at 0 ≡ k → pick k requirements ≡ some m → (r : OperatorRead) → Operated (m (drop (at + 1) text)) text (at + 1) r → Operated (requirement-letters (drop at text)) text at r
   required h e p r g = operated-is text (requirement-some h (letter requirements e p)) (omega arith) r g
 
@@ -121,7 +121,7 @@ pub accessor-is : (b : ℕ) {o : Option (Option String)} → pick b accessors �
 accessor-is b e = ap (λ o. variable (given o (bad 9) good)) (sym e)
 
 -- `w`
--- the rest of `value-witness-letters`, behind both letters: the name that they have
+-- the rest of `value-witness-letters`, after both letters: the name that they have
 named : Option String → Lex Operator
 named o = or-refuse 9 o >>= λ kind. ret (value-witness (bytes kind))
 
@@ -130,7 +130,7 @@ unfolding named
 both-letters b none t = refl
 both-letters b (some row) t = refl
 
--- in the arms of both letters, of the first alone, and of none
+-- in the arms of both letters, of the first only, and of none
 pub both-known : {a b j k : ℕ} {o : Option String} → a ≡ j → b ≡ k → witness-letters j k ≡ o → o ≡ witness-letters a b
 both-known {a} {b} {j} {k} e f p = sym (ap (λ (x : ℕ). witness-letters x b) e ∙ ap (witness-letters j) f ∙ p)
 

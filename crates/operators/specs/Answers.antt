@@ -1,5 +1,6 @@
--- What an answer says of a step of the definition that reads an operator. Assumes nothing.
--- The arguments: the step's outcome on the text from the cursor on, the whole text, where the next cursor stands at the least, the answer.
+-- What a result says about a step of the definition that reads an operator. Assumes nothing. The
+-- arguments: the outcome of the step on the text from the cursor on, the whole text, the least
+-- place of the next cursor, the result.
 use mathlib.Core.Path.{_≡_}
 use Prim.Native.Nat.{ℕ, _+_}
 use Rattle.definition.specs.Base.{Out, refused}
@@ -18,7 +19,7 @@ abbrev pub Subjected : Out Text Op.Subject → Text → ℕ → SubjectRead → 
 Subjected out text least (SubjectRead.Read s c) = Stands out (Enums.subject s) text least c
 Subjected out text least (SubjectRead.Refused f) = out ≡ refused (Enums.number f)
 
--- the letter `A`, which is b, stood at the place `at`
+-- the letter `A`, which is b, was at the place `at`
 pub record OpensChain (b at : ℕ) (c : Cursor) : Type 0 where
   pub letter : b ≡ 65
   pub next : c .at ≡ at + 1

@@ -1,4 +1,5 @@
--- Parts of the definition's steps that read operands, and what the numbers of the code mean. Assumes nothing.
+-- Parts of the definition's steps that read operands, and what the numbers of the code mean.
+-- Assumes nothing.
 use mathlib.Core.List.{[], _∷_}
 use mathlib.Core.Option.{Option, some, none}
 use Prim.Native.Nat.{ℕ, zero, suc}
@@ -9,7 +10,7 @@ use Rattle.definition.specs.Text.{Lex, Param, next, generic-param-index}
 use Rattle.definition.specs.Operators.{Operator, Subject, generic-param, leaf, metatype, archetype, variable, requirement, layout, of-stack, choose-then, choose-late, archetypes, on-param, on-member, layouts, accessors, value-witnesses}
 use Rattle.fixed_names.specs.Fixed.{fixed}
 
--- the arms of the definition's tables that are no step with a name: `q`, `Q`, `v` and `XM`
+-- the arms of the definition's tables that are not named steps: `q`, `Q`, `v` and `XM`
 abbrev pub generic-param-letters : Lex Operator
 generic-param-letters = generic-param-index >>= λ p. ret (leaf (generic-param p))
 
@@ -22,18 +23,18 @@ variable-letters = choose-late accessors >>= λ a. ret (variable a)
 abbrev pub any-byte : Lex Operator
 any-byte = next >> ret metatype
 
--- `Q`: the rest of `archetype-letters`, behind the letter b
+-- `Q`: the rest of `archetype-letters`, after the letter b
 abbrev pub archetype-of : Lex Param → Lex Operator
 archetype-of m = m >>= λ p. ret (archetype p)
 
 abbrev pub archetype-letter : ℕ → Lex Operator
 archetype-letter b = archetype-of (or-refuse 9 (pick b archetypes) >>= λ m. m)
 
--- `R`: what a code is on
+-- `R`: the subject of a code
 unfoldable pub on-target : ℕ → Lex Subject
 on-target t = getD (on-param ∷ ret of-stack ∷ []) t on-member
 
--- the rest of `requiring-layout`, behind the subject
+-- the rest of `requiring-layout`, after the subject
 abbrev pub layout-letter : Subject → Lex Operator
 layout-letter s = choose-late layouts >>= λ l. ret (requirement s (layout l))
 
@@ -41,7 +42,7 @@ layout-letter s = choose-late layouts >>= λ l. ret (requirement s (layout l))
 abbrev pub accessor-late : ℕ → Operator
 accessor-late b = variable (given (pick b accessors) (bad 9) good)
 
--- `w`: the name of both letters, and what a number of a name says: 0 is none
+-- `w`: the name for both letters, and the meaning of the number of a name: 0 is none
 abbrev pub witness-letters : ℕ → ℕ → Option String
 witness-letters a b = given (pick a value-witnesses) none (pick b)
 

@@ -1,4 +1,4 @@
-// One operator's letters and operands.
+// Reads the letters and operands of one operator.
 ghost use mathlib.Core.Path.{_≡_};
 ghost use mathlib.Core.Bool.{false};
 ghost use Prim.Native.Nat.{_+_, _≤_, _<_};
@@ -27,13 +27,13 @@ use text::Cursor;
 use text::Number;
 use text::ParamRead;
 
-// A requirement's subject.
+// The subject of a requirement.
 pub enum SubjectRead {
     Read(Subject, Cursor),
     Refused(Refusal),
 }
 
-// Operators that are letters alone
+// Operators that consist of letters only
 
 // `XM` and any byte
 fn any_byte(text: &[u8], c: Cursor) -> OperatorRead
@@ -355,7 +355,7 @@ fn requiring(text: &[u8], c: Cursor, target: u8, constraint: Constraint) -> Oper
     }
 }
 
-// The letter of a layout, which is judged late.
+// Reads the letter of a layout, which is judged late.
 fn layout(text: &[u8], c: Cursor, s: Subject) -> OperatorRead
     requires { ⌜ c .at ≤ length (now text) ⌝ }
     ensures { λ r. ⌜ Operated (layout-letter (Enums.subject s) (drop (c .at) (now (text .entry)))) (now (text .entry)) (c .at) r ⌝ }
@@ -452,7 +452,8 @@ fn variable(text: &[u8], c: Cursor) -> OperatorRead
 
 // `w`: value witnesses
 
-// The name of a witness by both letters; 0 is none, for the names of witnesses begin at 97.
+// Returns the name of a witness, given by both letters. 0 is none, because the names of witnesses
+// begin at 97.
 fn witness_name(a: u8, b: u8) -> usize
     ensures { λ r. ⌜ name-if-any r ≡ witness-letters a b ⌝ }
 {
@@ -541,7 +542,7 @@ fn value_witness(text: &[u8], c: Cursor) -> OperatorRead
 
 // An operator
 
-// The operator that begins at the cursor.
+// Reads the operator that begins at the cursor.
 pub fn operator(text: &[u8], c: Cursor) -> OperatorRead
     requires { ⌜ c .at < length (now text) ⌝ }
     ensures { λ r. ⌜ Begun (getD (now (text .entry)) (c .at) 0) (Op.operator (getD (now (text .entry)) (c .at) 0) (drop (c .at + 1) (now (text .entry)))) (now (text .entry)) (c .at) r ⌝ }

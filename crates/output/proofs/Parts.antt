@@ -7,7 +7,7 @@ use Rattle.copying.specs.Copied.{copied}
 use Rattle.copying.proofs.Parts.{part-length}
 use Rattle.output.specs.Sink.{part, Room, Wrote, wrote-out, wrote-in}
 
--- a part that ends past the slice's end, and one within it
+-- a part that ends past the end of the slice, and one within it
 module _ {room at to : ℕ} {o : List ℕ} (text : List ℕ) (from : ℕ) (h : Room room o at) (k : to ≤ length text) where
   pub part-out : {r : ℕ} → r ≡ min (at + (to - from)) (room + 1) → length o < r → Wrote room o o at (part text from to) r
   part-out e l = wrote-out (part text from to) h (e ∙ ap (λ (n : ℕ). min (at + n) (room + 1)) (sym (part-length text from to k))) l

@@ -1,5 +1,6 @@
--- Appending to a lent slice, measured against room. Assumes nothing.
--- One function measures and writes: with an empty slice and the room that is at hand it only counts; with a slice and its own length as room it writes.
+-- Appending to a lent slice, limited by room. Assumes nothing. One function measures and writes:
+-- with an empty slice and the available room it only counts; with a slice and its own length as
+-- room it writes.
 use mathlib.Core.Path.{_≡_, refl, sym, ap, subst, _∙_}
 use mathlib.Core.List.{List, [], _∷_, _++_, append-assoc, append-nil}
 use Prim.Native.Nat.{ℕ, zero, suc, _+_, _-_, _/_, _%_, _≤_, _<_, min, _^_}
@@ -10,14 +11,16 @@ use lib.ListN.{length, take, drop, set, length-append, length-take, length-set, 
 use lib.Seq.{take-at, drop-at, drop-drop, set-split, append-snoc, sets, sets-eq, length-sets}
 pub use Rattle.copying.specs.Copied.{part}
 
--- What may be appended to: `at` is the place of the next byte, or room + 1 once something did not fit; the slice is no longer than room
+-- What may be appended to: `at` is the place of the next byte, or room + 1 once something did not
+-- fit. The slice is no longer than room
 pub record Room (room : ℕ) (o : List ℕ) (at : ℕ) : Type 0 where
   pub past : at ≤ room + 1
   pub short : length o ≤ room
   pub small : room < 2 ^ 63
 
--- The bytes s, appended at `at` to the slice o, which is o' then. The next place r is behind them, and room + 1 where they do not fit.
--- Where r lies within the slice, s stands in it from `at` to r, and the rest of it is as it was
+-- The bytes s are appended at `at` to the slice o, which is then o'. The next place r is after
+-- them, or room + 1 if they do not fit. If r is within the slice, the slice has s from `at` to r,
+-- and the rest of it is unchanged
 pub record Wrote (room : ℕ) (o o' : List ℕ) (at : ℕ) (s : List ℕ) (r : ℕ) : Type 0 where
   pub next : Room room o' r
   pub count : r ≡ min (at + length s) (room + 1)
@@ -33,7 +36,7 @@ wrote-nothing {room} {at} {o} h = record {
   text = λ _. sym (ap (λ (x : List ℕ). x ++ drop at o) (append-nil (take at o)) ∙ take-append-drop at o);
 }
 
--- a piece that ends past the slice's end leaves the slice as it is
+-- a piece that ends past the end of the slice leaves the slice unchanged
 pub wrote-out : {room at r : ℕ} {o : List ℕ} (s : List ℕ) → Room room o at → r ≡ min (at + length s) (room + 1) → length o < r → Wrote room o o at s r
 wrote-out {room} {at} {r} {o} s h e k = record {
   next = record { past = omega arith; short = h .short; small = h .small };
@@ -89,7 +92,7 @@ wrote-then {room} {at} {m} {r} {o} {o1} {o2} {s} {t} a b = record {
       b .text k1 ∙ ap (λ (x : List ℕ). x ++ t ++ drop r o1) t1 ∙ ap (λ (x : List ℕ). (take at o ++ s) ++ t ++ x) d2 ∙ ap (λ (x : List ℕ). x ++ drop r o) (append-assoc (take at o) s t);
 }
 
--- In a loop: whoever appends `rest` to o at `at` has appended the whole to o₀ at at₀
+-- In a loop: appending `rest` to o at `at` appends the whole to o₀ at at₀
 pub record Rest (room : ℕ) (o₀ : List ℕ) (at₀ : ℕ) (whole : List ℕ) (o : List ℕ) (at : ℕ) (rest : List ℕ) : Type 0 where
   pub next : Room room o at
   pub ends : (o' : List ℕ) (e : ℕ) → Wrote room o o' at rest e → Wrote room o₀ o' at₀ whole e
@@ -111,7 +114,7 @@ module _ {room at at₀ : ℕ} {o₀ o whole : List ℕ} where
   rest-past {s} k h = h .ends _ _ (wrote-stays s (h .next) k)
 
 -- THE BYTES OF A WORD
--- the n low bytes of a number, the least first
+-- the n low bytes of a number, the least significant first
 unfoldable pub low-bytes : ℕ → ℕ → List ℕ
 low-bytes zero w = []
 low-bytes (suc n) w = w % 256 ∷ low-bytes n (w / 256)
@@ -121,7 +124,7 @@ unfolding low-bytes
 low-length zero w = refl
 low-length (suc n) w = ap suc (low-length n (w / 256))
 
--- stores one behind the other
+-- stores one after another
 pub sets-then : (o : List ℕ) (at : ℕ) (s t : List ℕ) → sets (sets o at s) (at + length s) t ≡ sets o at (s ++ t)
 sets-then o at [] t = let e : at + 0 ≡ at = omega arith in ap (λ (i : ℕ). sets o i t) e
 sets-then o at (x ∷ s) t = let e : at + suc (length s) ≡ suc at + length s = omega arith in ap (λ (i : ℕ). sets (sets (set o at x) (suc at) s) i t) e ∙ sets-then (set o at x) (suc at) s t

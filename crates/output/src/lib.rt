@@ -1,4 +1,5 @@
-// Appending bytes to a lent slice, measured against room (specs/Sink.antt), which with an empty slice only measures; and storing the bytes of a word in it.
+// Appending bytes to a lent slice, limited by room (specs/Sink.antt); with an empty slice this only
+// measures. Also storing the bytes of a word in the slice.
 ghost use mathlib.Core.Path.{_≡_};
 ghost use Prim.Native.Nat.{_+_, _≤_};
 ghost use mathlib.Core.List.{_∷_, []};
@@ -8,7 +9,7 @@ ghost use Rattle.output.specs.Sink.{part, Room, Wrote, low-bytes};
 use copying::copy;
 use copying::copy_words;
 
-// Appends bytes. Where they do not end within the slice, none of them is looked at.
+// Appends bytes. If they do not end within the slice, none of them is read.
 pub fn put(out: &mut [u8], at: usize, room: usize, bytes: &[u8]) -> usize
     requires { ⌜ Room room (now out) at ⌝ }
     ensures { λ r. ⌜ Wrote room (now (out .entry)) (now (out .exit)) at (now (bytes .entry)) r ⌝ }
@@ -27,7 +28,7 @@ pub fn put(out: &mut [u8], at: usize, room: usize, bytes: &[u8]) -> usize
     end
 }
 
-// Appends text[from..to], as put does.
+// Appends text[from..to], like `put`.
 pub fn put_part(
     out: &mut [u8],
     at: usize,
@@ -73,7 +74,7 @@ pub fn put_byte(out: &mut [u8], at: usize, room: usize, b: u8) -> usize
     at + 1
 }
 
-// Stores the eight bytes of a word, the least first.
+// Stores the eight bytes of a word, the least significant first.
 pub fn store_word(out: &mut [u8], at: usize, w: u64)
     requires { ⌜ at + 8 ≤ length (now out) ⌝ }
     ensures { λ _. ⌜ now (out .exit) ≡ sets (now (out .entry)) at (low-bytes 8 w) ⌝ }
@@ -88,7 +89,7 @@ pub fn store_word(out: &mut [u8], at: usize, w: u64)
     out[at + 7] = (w / 72057594037927936 % 256) as u8;
 }
 
-// Stores the n low bytes of a word, the least first.
+// Stores the n low bytes of a word, the least significant first.
 pub fn store_low(out: &mut [u8], at: usize, n: usize, w: u64)
     requires { ⌜ at + n ≤ length (now out) ⌝ }
     ensures { λ _. ⌜ now (out .exit) ≡ sets (now (out .entry)) at (low-bytes n w) ⌝ }

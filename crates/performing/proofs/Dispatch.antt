@@ -1,4 +1,4 @@
--- What an operator's function says is what the definition's operator does.
+-- What the function of an operator says is what the definition's operator does.
 use mathlib.Core.Path.{_≡_, sym, ap, subst, _∙_}
 use mathlib.Core.List.{List, _∷_}
 use Prim.Native.Nat.{ℕ, _<_}
@@ -28,7 +28,7 @@ use Rattle.nodes.proofs.Taking.{less-spare}
 use Rattle.nodes.proofs.Ready.{room}
 use Rattle.entity_records.specs.Leaves.{letter}
 
--- the definition's operator, by the fixed names
+-- the definition's operator, given the fixed names
 abbrev pub performed : (N : ℕ) → Operator → Performed
 performed N op names = R.perform N (Enums.operator names op)
 
@@ -68,7 +68,7 @@ pub function-refused : {w w₁ : List ℕ} {N : ℕ} {st : State} {r : Refusal} 
 unfolding R.perform Enums.operator
 function-refused g = record { runs = λ nm m i h. ap (λ y. and-then y (λ x. M.push x)) (g .0 nm full-spare m h); past = g .1 .past; long = g .1 .long }
 
--- an arm's answer of what is built
+-- the result of an arm for what is built
 pub built-place : {w w₁ : List ℕ} {N : ℕ} {st : State} {r : Built} (p : ℕ) (u : State) → r ≡ Built.Place p u → Builds R.function-type 1 0 w w₁ N st r → Building R.function-type 1 0 w w₁ N st p u
 built-place {w} {w₁} {N} {st} p u e h = subst (λ (x : Built). Builds R.function-type 1 0 w w₁ N st x) e h
 

@@ -1,4 +1,4 @@
-// What one operator does to the records, by its letters: every operator but `A`.
+// The effect of one operator on the records, given by its letters: every operator except `A`.
 ghost use Rattle.definition.specs.Enums as Enums;
 ghost use Rattle.definition.specs.Perform as R;
 ghost use Rattle.definition.specs.declared.Operator.the-variants as Operators;
@@ -9,7 +9,7 @@ use nodes::Built;
 use nodes::Step;
 use records::State;
 
-// A function type on top of the stack.
+// Pushes a function type.
 fn function_type(ws: &mut [u32], n: usize, st: State) -> Step
     requires { ⌜ Ready (now ws) n st full-spare ⌝ }
     ensures { λ r. ⌜ Operates (λ fixed. R.perform n (Enums.operator fixed Operators.FunctionType)) (now (ws .entry)) (now (ws .exit)) n st r ⌝ }
@@ -20,7 +20,7 @@ fn function_type(ws: &mut [u32], n: usize, st: State) -> Step
     }
 }
 
-// One operator but for `A`.
+// Performs one operator other than `A`.
 pub fn perform(ws: &mut [u32], n: usize, st: State, op: Operator) -> Step
     requires { ⌜ Ready (now ws) n st full-spare ⌝ }
     ensures { λ r. ⌜ Operates (λ fixed. R.perform n (Enums.operator fixed op)) (now (ws .entry)) (now (ws .exit)) n st r ⌝ }

@@ -30,7 +30,7 @@ module _ (t : Text) {u : Text} where
   unfolding start
   start-zero e k = ap (λ o. and-then o second-zero) e ∙ ap (λ o. and-then o (λ p. ret (lead (not p) p))) k
 
--- THE BYTES BEHIND A LENGTH
+-- THE BYTES AFTER A LENGTH
 module _ (more punycoded : Bool) where
   pub counted-none : (n : ℕ) (t : Text) → n ≡ 0 → of-bytes more (counted punycoded n t) ≡ end
   unfolding counted
@@ -57,7 +57,7 @@ module _ (more punycoded : Bool) where
         let z : n ≡ (from + n) - from = omega arith in
         counted-is ∙ e ∙ ap (λ (x : Text). ok (take n (drop from text)) x) (drop-drop n from text) ∙ ap (λ (m : ℕ). ok (take m (drop from text)) (drop (from + n) text)) z
 
-    -- words by letter may follow
+    -- word letters may follow
     pub counted-more : n ≤ length text - from → more ≡ true → {next : Speller} → next ≡ record { at = from + n; more = more; punycoded = punycoded } →
         Taken (of-bytes more (counted punycoded n (drop at text))) text at punycoded from (from + n) next
     counted-more h m {next} e = record {
@@ -92,7 +92,7 @@ module _ (more punycoded : Bool) (t : Text) {u : Text} where
   unfolding literal-piece
   literal-open e = ap (unless-closed more punycoded) e
 
--- a piece behind a step
+-- a piece after a step
 pub piece-is : (text : Text) {out out′ : Piece} {least least′ : ℕ} (punycoded : Bool) → out ≡ out′ → least ≤ least′ → (r : Answer) → PieceIs out′ text least′ punycoded r → PieceIs out text least punycoded r
 piece-is text punycoded e l (Answer.Part from to next) h = record { is = e ∙ h .is; kept = h .kept; order = h .order; inside = h .inside; onward = omega (arith, h .onward); within = h .within }
 piece-is text punycoded e l Answer.End h = e ∙ h

@@ -1,4 +1,4 @@
--- What the functions of this crate say of an identifier's pieces. Assumes nothing.
+-- What the functions of this crate say about the pieces of an identifier. Assumes nothing.
 use mathlib.Core.Path.{_≡_}
 use mathlib.Core.Bool.{Bool}
 use Prim.Native.Nat.{ℕ, _≤_}
@@ -12,12 +12,12 @@ use Rattle.pieces.specs.declared.Piece.{Piece}
 use Rattle.pieces.specs.declared.Piece.the-variants as Piece
 
 -- PIECE BY PIECE
--- a cursor behind the lead of an identifier
+-- a cursor after the lead of an identifier
 pub record Begun (text : Text) (p : ℕ) (s : Speller) : Type 0 where
   pub is : P.start (drop p text) ≡ ok (P.lead (s .more) (s .punycoded)) (drop (s .at) text)
   pub inside : s .at ≤ length text
 
--- the piece is text[from..to], and the next cursor lies at `least` or later
+-- the piece is text[from..to], and the next cursor is at `least` or later
 pub record Taken (out : P.Piece) (text : Text) (least : ℕ) (punycoded : Bool) (from to : ℕ) (next : Speller) : Type 0 where
   pub is : out ≡ P.piece (part text from to) (next .more) (drop (next .at) text)
   pub kept : next .punycoded ≡ punycoded
@@ -30,7 +30,7 @@ abbrev pub PieceIs : P.Piece → Text → ℕ → Bool → Piece → Type 0
 PieceIs out text least punycoded (Piece.Part from to next) = Taken out text least punycoded from to next
 PieceIs out text least punycoded Piece.End = out ≡ P.end
 
--- the mark behind a length was passed over, if it stands there
+-- the mark after a length was skipped, if it is there
 pub record Passed (out : Out Text Bool) (text : Text) (from to : ℕ) : Type 0 where
   pub was : Bool
   pub is : out ≡ ok was (drop to text)

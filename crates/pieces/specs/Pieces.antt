@@ -1,5 +1,6 @@
--- The pieces of an identifier, one after another, by a table of words that does not change. Assumes nothing.
--- No words are noted, UTF-8 is not looked at, and where something does not read the name ends.
+-- The pieces of an identifier, one after another, using a table of words that does not change.
+-- Assumes nothing. No words are noted, UTF-8 is not checked, and the name ends where something
+-- cannot be read.
 use mathlib.Core.Bool.{Bool, true, false, _&&_, not}
 use mathlib.Core.List.{List, [], _∷_, _++_}
 use mathlib.Core.Option.{Option, some, none}
@@ -11,20 +12,21 @@ use Rattle.definition.specs.Base.{Name, if_then_else_, is, lower, upper, Out, o
 use Rattle.definition.specs.Text.{Text, Lex, next-if, natural}
 use Rattle.definition.specs.Words.{take-bytes}
 
--- What stands at the cursor of an identifier: the bytes of a piece, whether words by letter may come behind it, and the text from there on; or nothing more
+-- What is at the cursor of an identifier: the bytes of a piece, whether word letters may follow it,
+-- and the text after it; or the end
 pub data Piece : Type 0 where
   piece : Name → (more : Bool) → Text → Piece
   end : Piece
 
--- the `_` that may stand behind the length of a punycode name
+-- the `_` that may follow the length of a punycode name
 abbrev pub mark : (punycoded : Bool) → Lex Bool
 mark punycoded = if punycoded then next-if (is "_") else ret false
 
--- the bytes behind a length (lines 817 to 826, but for UTF-8)
+-- the bytes after a length (lines 817 to 826, except UTF-8)
 unfoldable pub counted : (punycoded : Bool) → ℕ → Lex Name
 counted punycoded n = unless 9 (ltb 0 n) >> (mark punycoded >>= λ _. take-bytes n)
 
--- Where no words by letter may come, such bytes are the last piece: no text is left
+-- If no word letters may follow, these bytes are the last piece: no text is left
 abbrev pub of-bytes : (more : Bool) → Out Text Name → Piece
 of-bytes more (ok s u) = piece s more (if more then u else [])
 of-bytes more (refused r) = end
@@ -42,12 +44,13 @@ unless-closed more punycoded (refused r) = end
 unfoldable pub literal-piece : (more punycoded : Bool) → Text → Piece
 literal-piece more punycoded t = unless-closed more punycoded (next-if (is "0") t)
 
--- the word that a letter stands for
+-- the word that a letter represents
 abbrev pub of-word : Option Name → (more : Bool) → Text → Piece
 of-word none more t = end
 of-word (some w) more t = piece w more t
 
--- The piece at the cursor (a turn of the loops of lines 803 to 836): a small letter is a word, and so is a capital, behind which no further letter may come
+-- The piece at the cursor (a turn of the loops of lines 803 to 836): a small letter is a word, and
+-- so is a capital, after which no further letter may follow
 unfoldable pub piece-of : List Name → (more punycoded : Bool) → Text → Piece
 piece-of words false punycoded t = literal-piece false punycoded t
 piece-of words true punycoded [] = literal-piece true punycoded []
@@ -59,7 +62,7 @@ piece-of words true punycoded (c ∷ t) = elim (lower c) [
   ]
 ]
 
--- How an identifier begins: lead `00` marks punycode, lead `0` alone allows words
+-- How an identifier begins: leading `00` marks punycode, leading `0` alone allows words
 pub record Lead : Type 0 where
   pub more : Bool
   pub punycoded : Bool
@@ -67,7 +70,7 @@ pub record Lead : Type 0 where
 abbrev pub lead : Bool → Bool → Lead
 lead m p = record { more = m; punycoded = p }
 
--- behind a first `0`, or none
+-- after a first `0`, or none
 abbrev pub second-zero : Bool → Lex Lead
 second-zero zero₁ = do
   punycoded ← if zero₁ then next-if (is "0") else ret false
@@ -76,7 +79,7 @@ second-zero zero₁ = do
 unfoldable pub start : Lex Lead
 start = next-if (is "0") >>= second-zero
 
--- the bytes of a piece and of all that come behind it
+-- the bytes of a piece and of all that follow it
 pub data Follows (words : List Name) (punycoded : Bool) : Piece → Name → Type 0 where
   nothing : Follows words punycoded end []
   after : {w n : Name} {more : Bool} {t : Text} → Follows words punycoded (piece-of words more punycoded t) n → Follows words punycoded (piece w more t) (w ++ n)

@@ -1,4 +1,4 @@
-// The pieces of an identifier, one after another, by the table of words.
+// The pieces of an identifier, one after another, using the table of words.
 ghost use mathlib.Core.Path.{_≡_};
 ghost use Prim.Native.Nat.{_+_, _≤_, _<_};
 ghost use lib.ListN.{length, drop, getElem?};
@@ -13,20 +13,20 @@ use text::Number;
 use text::natural;
 use text::next_if;
 
-// A cursor into an identifier: whether words by letter may come, and whether it is punycode.
+// A cursor into an identifier: whether word letters may follow, and whether it is punycode.
 pub struct Speller {
     at: usize,
     more: bool,
     punycoded: bool,
 }
 
-// What stands at the cursor: the bytes text[from..to], with the next cursor; or nothing more.
+// What is at the cursor: the bytes text[from..to], with the next cursor; or the end.
 pub enum Piece {
     Part(usize, usize, Speller),
     End,
 }
 
-// The cursor behind the lead `0` or `00`.
+// Returns the cursor after the leading `0` or `00`.
 pub fn first(text: &[u8], p: usize) -> Speller
     requires { ⌜ p ≤ length (now text) ⌝ }
     ensures { λ r. ⌜ Begun (now (text .entry)) p r ⌝ }
@@ -57,7 +57,7 @@ fn wide(x: u16) -> usize
     x as usize
 }
 
-// The word that a letter stands for, with the cursor behind the letter.
+// Returns the word that a letter represents, with the cursor after the letter.
 fn word(starts: &[u16; 26], lengths: &[u16; 26], known: usize, i: usize, next: Speller) -> Piece
     requires { ⌜ known ≤ 26 ⌝ }
     ensures { λ r. ⌜ ((text : Text) → Fitting text (lent (now (starts .entry)) (now (lengths .entry)) known) → next .at ≤ length text → PieceIs (P.of-word (getElem? (table text (lent (now (starts .entry)) (now (lengths .entry)) known)) i) (next .more) (drop (next .at) text)) text (next .at) (next .punycoded) r) ⌝ }
@@ -70,7 +70,7 @@ fn word(starts: &[u16; 26], lengths: &[u16; 26], known: usize, i: usize, next: S
     Piece::Part(from, to, next)
 }
 
-// The place behind the `_` that may stand behind the length of a punycode name.
+// Returns the place after the `_` that may follow the length of a punycode name.
 fn behind_mark(text: &[u8], at: usize, punycoded: bool) -> usize
     requires { ⌜ at ≤ length (now text) ⌝ }
     ensures { λ r. ⌜ Passed (P.mark punycoded (drop at (now (text .entry)))) (now (text .entry)) at r ⌝ }
@@ -83,7 +83,8 @@ fn behind_mark(text: &[u8], at: usize, punycoded: bool) -> usize
     at
 }
 
-// The n bytes behind a length, which ends at `at`. Where no words by letter may come, the name ends with them: no text is left.
+// Returns the n bytes after a length, which ends at `at`. If no word letters may follow, the name
+// ends with these bytes: no text is left.
 fn counted(text: &[u8], at: usize, n: usize, more: bool, punycoded: bool) -> Piece
     requires { ⌜ at ≤ length (now text) ⌝ }
     ensures { λ r. ⌜ PieceIs (P.of-bytes more (P.counted punycoded n (drop at (now (text .entry))))) (now (text .entry)) at punycoded r ⌝ }
@@ -113,7 +114,7 @@ fn counted(text: &[u8], at: usize, n: usize, more: bool, punycoded: bool) -> Pie
     Piece::Part(from, to, last)
 }
 
-// A length and its bytes.
+// Reads a length and its bytes.
 pub fn of_length(text: &[u8], at: usize, more: bool, punycoded: bool) -> Piece
     requires { ⌜ at ≤ length (now text) ⌝ }
     ensures { λ r. ⌜ PieceIs (P.of-length more punycoded (natural (drop at (now (text .entry))))) (now (text .entry)) (at + 1) punycoded r ⌝ }
@@ -138,7 +139,7 @@ fn literal(text: &[u8], at: usize, more: bool, punycoded: bool) -> Piece
     of_length(text, next.at, more, punycoded)
 }
 
-// The piece at the cursor.
+// Returns the piece at the cursor.
 pub fn next_piece(
     text: &[u8],
     starts: &[u16; 26],

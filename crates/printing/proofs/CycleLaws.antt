@@ -1,4 +1,5 @@
--- The printer's functions that call each other: from what the calls append to what the caller appends. Assumes nothing.
+-- The functions of the printer that call each other: from what the calls append to what the caller
+-- appends. Assumes nothing.
 use mathlib.Core.Path.{_≡_, refl, sym, ap, subst, _∙_}
 use mathlib.Core.Bool.{Bool, true, false, _||_, not}
 use mathlib.Core.List.{List, [], _∷_, _++_, append-assoc, append-nil}
@@ -65,7 +66,7 @@ no-more nothing e = refl
 no-more (one l m h) e = absurd (omega arith)
 no-more (more l h k) e = absurd (omega arith)
 
--- the loop over a row: what is left of it is row
+-- the loop over a row: row is what is left of it
 pub record Rowing (nm : Names) (ws : List ℕ) (p row₀ room : ℕ) (o₀ : List ℕ) (at₀ : ℕ) (o : List ℕ) (row r : ℕ) : Type 0 where
   pub next : Room room o r
   pub len : length o ≡ length o₀
@@ -97,7 +98,7 @@ module _ {nm : Names} {ws : List ℕ} {p row₀ room at₀ : ℕ} {o₀ : List �
     pub rowing-end : Rowed nm ws p row₀ → row ≡ 0 → Puts (Prints nm ws p) room o₀ o at₀ r
     rowing-end f e = record { next = v .next; len = v .len; each = λ s k. let (t, u, w) = v .each s (f .each s k) in rest-end (rest-is (no-more u e) w) }
 
--- a piece is a plain piece of the record that it is placed at
+-- a piece is a plain piece of the record that it belongs to
 module _ {nm : Names} {ws : List ℕ} {p code q : ℕ} (d : Placed ws p code q) (l : code < 256) {s : Name} (h : Piece nm ws p code s) where
   placed-by : (b : Bool) → ltb code 128 ≡ b → (q ≤ p) × Plain nm ws q (code % 128) s
   placed-by true e =
@@ -115,7 +116,7 @@ module _ {nm : Names} {ws : List ℕ} {p code q : ℕ} (d : Placed ws p code q) 
   pub placed : (q ≤ p) × Plain nm ws q (code % 128) s
   placed = placed-by (ltb code 128) refl
 
--- an identifier or a module is its name alone
+-- an identifier or a module is only its name
 only-piece : {nm : Names} {ws : List ℕ} {p row : ℕ} {s : Name} → 0 < row → row < 256 → Pieces nm ws p row s → Piece nm ws p row s
 only-piece l m nothing = absurd (omega arith)
 only-piece l m (one _ _ h) = h
@@ -179,7 +180,7 @@ unfolding many printed-elements with-labels
 no-cells nil sep i shown ls e = left-none sep i
 no-cells (cons x y ns) sep i shown ls e = absurd (omega arith)
 
--- the loop over a list's cells
+-- the loop over the cells of a list
 pub record Celling (nm : Names) (ws : List ℕ) (p k₀ count sep : ℕ) (shown : Bool) (l : Labels) (room : ℕ) (o₀ : List ℕ) (at₀ : ℕ) (o : List ℕ) (host k : ℕ) (labels : Labels) (r i : ℕ) : Type 0 where
   pub next : Room room o r
   pub len : length o ≡ length o₀
@@ -335,7 +336,7 @@ module _ (nm : Names) (ws : List ℕ) (p : ℕ) (l : Labels) {k : ℕ} (ek : k �
         (wrote-then (wrote-is (append-assoc (text-of 6) (prefix (label-now (listed (h .labels)) none)) (print (h .tree))) (wrote-then (wrote-then w (x .each _ (other-label h))) (y .each _ (other-prints h)))) z);
   }
 
-  -- BEHIND A NAME
+  -- AFTER A NAME
   record FunctionAt (s : Name) : Type 0 where
     params : Name
     result : Name
@@ -448,7 +449,7 @@ module _ (nm : Names) (ws : List ℕ) (p : ℕ) (l : Labels) {k : ℕ} (ek : k �
 pub world-below : {text : Text} {w : Words} {ws : List ℕ} {p q : ℕ} → World text w ws p → q < p → World text w ws q
 world-below h l = record { known = h .known; long = omega (arith, h .long) }
 
--- the child that a piece of the codes 16 to 23 is
+-- the child that a piece with a code of 16 to 23 is
 pub child-at : {nm : Names} {ws : List ℕ} {p code q : ℕ} → 16 ≤ code → code < 24 → q ≡ at ws p (code - 16) → Some (Plain nm ws p code) → (q < p) × Some (Prints nm ws q)
 child-at l m e s = let v = s .is .child l m in (omega (arith, v .0), record { text = s .text; is = prints-at e (v .1) })
 

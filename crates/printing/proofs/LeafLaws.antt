@@ -1,4 +1,4 @@
--- What depends on a record's numbers alone, and the list of a code. Assumes nothing.
+-- What depends only on the numbers of a record, and the list of a code. Assumes nothing.
 use mathlib.Core.Path.{_≡_, sym, ap, _∙_}
 use mathlib.Core.Bool.{Bool, true, false, _&&_}
 use mathlib.Core.List.{List}
@@ -40,7 +40,7 @@ module _ (ws : List ℕ) (p : ℕ) where
     unfolding leaf-text
     leaf-suspend a b c d e = ap suspend-resume-text e ∙ sym (simp (ne-eqb code 24 a, ne-eqb code 25 b, ne-eqb code 26 c, ne-eqb code 27 d))
 
-  -- an initializer's name
+  -- the name of an initializer
   pub init-plain : {a : ℕ} → a ≡ at ws p 3 → (a ≡ 1 → ⊥) → text-of 30 ≡ init-name ws p
   init-plain {a} e f = sym (ap (λ (x : Bool). if x && eqb (at ws (at ws p 4) 0) K.class then text-of 29 else text-of 30) (ne-eqb (at ws p 3) 1 (λ (z : at ws p 3 ≡ 1). f (e ∙ z))))
 

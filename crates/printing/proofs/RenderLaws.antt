@@ -1,4 +1,5 @@
--- The text with its suffix: printed into an array and copied, or measured and then written. Assumes nothing.
+-- The text with its suffix: printed into an array and copied, or measured and then written. Assumes
+-- nothing.
 use mathlib.Core.Path.{_≡_, refl, sym, ap, subst, _∙_}
 use mathlib.Core.List.{List, [], _∷_, _++_, append-nil}
 use Prim.Native.Nat.{ℕ, _+_, _-_, _≤_, _<_}
@@ -46,7 +47,7 @@ meant : {nm : Names} {ws : List ℕ} {p : ℕ} (suffix : Text) (s : Name) → Pr
 meant suffix s k = record { text = s; prints = k; is = refl }
 
 -- PRINTED ONCE
--- into a slice z, where it fits
+-- into a slice z, if it fits
 module _ {nm : Names} {ws : List ℕ} {p n m : ℕ} {suffix : Text} {z e : List ℕ} (o : List ℕ) (full : length z ≡ n) (h : Puts (Suffixed nm ws p suffix) n z e 0 m) (l : m ≤ n) where
   once-length : (s : Name) → Prints nm ws p s → length (s ++ suffix-text suffix) ≡ m
   once-length s k = let c = h .each (s ++ suffix-text suffix) (meant suffix s k) .count in omega arith

@@ -1,7 +1,8 @@
-// The printer of trees that lie as records in a workspace: one set of functions measures and writes.
-// The text of a record is a row of pieces, one behind the other: fixed texts, names, children, lists and what depends on numbers in
-// it. `print` looks the row up by the record's form and appends its pieces; specs/Pieces.antt of `shown_labels` says what each
-// code stands for.
+// The printer of trees that are stored as records in a workspace. One set of functions both
+// measures and writes. The text of a record is a row of pieces, one after another: fixed texts,
+// names, children, lists, and pieces that depend on numbers in the record. `print` looks up the row
+// by the form of the record and appends its pieces. specs/RowTexts.antt of `print_labels` says what
+// each code represents.
 ghost use mathlib.Core.Path.{_≡_};
 ghost use mathlib.Core.Bool.{true, false};
 ghost use Prim.Native.Nat.{_+_, _*_, _≤_, _<_, _^_};
@@ -31,7 +32,8 @@ use shown_labels::no_labels;
 use shown_labels::own_label;
 use shown_labels::put_label;
 
-// A list's cells: so many, the first at the place in that field; the text between them by its number; whether labels are shown.
+// The cells of a list: how many, the field that has the place of the first, the number of the text
+// between them, and whether labels are shown.
 struct ListForm {
     field: usize,
     count: usize,
@@ -39,9 +41,9 @@ struct ListForm {
     shown: bool,
 }
 
-// WHAT DEPENDS ON NUMBERS
+// PIECES THAT DEPEND ON NUMBERS
 
-// Appends an initializer's name.
+// Appends the name of an initializer.
 fn put_init_name(out: &mut [u8], at: usize, room: usize, ws: &[u32], p: usize) -> usize
     requires { ⌜ Room room (now out) at ⌝ }
     requires { ⌜ 8 * p + 8 ≤ length (now ws) ⌝ }
@@ -71,7 +73,7 @@ fn put_effects_of(out: &mut [u8], at: usize, room: usize, ws: &[u32], p: usize) 
     put_effects(out, at, room, throws == 1, asynchronous == 1)
 }
 
-// Appends a piece of the codes 24 to 31.
+// Appends a piece with a code of 24 to 31.
 fn put_leaf(out: &mut [u8], at: usize, room: usize, ws: &[u32], p: usize, code: usize) -> usize
     requires { ⌜ Room room (now out) at ⌝ }
     requires { ⌜ 8 * p + 8 ≤ length (now ws) ⌝ }
@@ -97,7 +99,7 @@ fn put_leaf(out: &mut [u8], at: usize, room: usize, ws: &[u32], p: usize, code: 
     put_suspend_resume(out, at, room, number)
 }
 
-// The list of a piece of the codes 32 to 39.
+// Returns the list of a piece with a code of 32 to 39.
 fn list_form(ws: &[u32], p: usize, code: usize) -> ListForm
     requires { ⌜ 8 * p + 8 ≤ length (now ws) ⌝ }
     requires { ⌜ (32 ≤ code) × (code < 38) ⌝ }
@@ -160,7 +162,8 @@ fn list_form(ws: &[u32], p: usize, code: usize) -> ListForm
 
 // THE PRINTER
 
-// The place of the record that a piece of the record at place p is of: its own, or from code 128 on that of the record in field 4.
+// Returns the place of the record that a piece of the record at place p belongs to: p itself, or,
+// from code 128 on, the place of the record in field 4.
 fn place_of(ws: &[u32], p: usize, code: usize) -> usize
     requires { ⌜ 8 * p + 8 ≤ length (now ws) ⌝ }
     ensures { λ r. ⌜ Placed (now (ws .entry)) p code r ⌝ }
@@ -241,7 +244,7 @@ fn print_plain(
     if code < 24 {
         let q = get(ws, p, code - 16);
         let kind = get(ws, q, 0);
-        // An identifier or a module is its name alone.
+        // An identifier or a module is only its name.
         if kind < 2 {
             let k = get(ws, q, 3);
             return put_named(out, at, room, text, starts, lengths, known, k);
@@ -266,7 +269,8 @@ fn print_plain(
     print_params(out, at, room, ws, text, starts, lengths, known, q, l)
 }
 
-// Appends the elements of a list, whose cells begin at the place in a field of the record at place p.
+// Appends the elements of a list. Its first cell is at the place in a field of the record at place
+// p.
 fn print_cells(
     out: &mut [u8],
     at: usize,
@@ -323,7 +327,7 @@ fn print_cells(
     r
 }
 
-// Appends the element in the cell at place p, with its label, and what stands before it.
+// Appends the element in the cell at place p, preceded by the separator and its label.
 fn print_cell(
     out: &mut [u8],
     at: usize,
@@ -353,7 +357,7 @@ fn print_cell(
     print(out, s, room, ws, text, starts, lengths, known, q)
 }
 
-// Appends a function's parameters in parentheses, with its labels.
+// Appends the parameters of a function in parentheses, with its labels.
 fn print_params(
     out: &mut [u8],
     at: usize,
@@ -398,7 +402,8 @@ fn print_params(
     put_text(out, t, room, 7)
 }
 
-// Appends the type of a function or initializer behind its name: a signature first, if there is one.
+// Appends the type of a function or initializer after its name. A signature is first, if there is
+// one.
 fn print_signed(
     out: &mut [u8],
     at: usize,
@@ -427,7 +432,7 @@ fn print_signed(
     print_behind(out, at, room, ws, text, starts, lengths, known, p, l)
 }
 
-// Appends the type of a function or initializer behind its name and signature.
+// Appends the type of a function or initializer after its name and signature.
 fn print_behind(
     out: &mut [u8],
     at: usize,
@@ -461,7 +466,7 @@ fn print_behind(
 
 // RENDERING
 
-// Appends the text of the tree at place p, and the suffix behind it, if there is one.
+// Appends the text of the tree at place p, followed by the suffix, if there is one.
 fn print_whole(
     out: &mut [u8],
     room: usize,
@@ -487,9 +492,10 @@ fn print_whole(
     put_text(out, t, room, 36)
 }
 
-// Writes the text of the tree at place p to the front of out, with the suffix behind it, and returns its length. Where out has no room for both it returns
-// one more than out's length, and out is as it was. A text of up to 512 bytes is printed once, into an array, and copied from there; a longer one is
-// measured first.
+// Writes the text of the tree at place p to the front of out, followed by the suffix, and returns
+// its length. If out has no room for both, it returns one more than the length of out, and out is
+// unchanged. A text of up to 512 bytes is printed once, into an array, and copied from there. A
+// longer one is measured first.
 pub fn render(
     out: &mut [u8],
     ws: &[u32],

@@ -1,4 +1,4 @@
--- The letters behind `A`, performed one by one. Assumes nothing.
+-- The letters after `A`, performed one by one. Assumes nothing.
 use mathlib.Core.Path.{_≡_, refl, sym, ap, subst, _∙_}
 use mathlib.Core.Bool.{Bool, true, false}
 use mathlib.Core.List.{List}
@@ -54,7 +54,7 @@ module _ (N : ℕ) (text : Text) (at : ℕ) (m : Demangler) where
       ap (λ (ch : Chain). performs N (outcome ch) m) (b .is) ∙ (performs-more N m t i (chain (drop (c .at) text)) ∙ ap (λ (x : Out Demangler Done). and-then x (λ y. chained N text (c .at))) q)
 
 module _ (N : ℕ) (text : Text) (at : ℕ) {w : List ℕ} {st : State} where
-  -- an index that lies past every remembered node is refused as any other such is
+  -- an index past every remembered node is refused like any other such index
   same-index : {i j : ℕ} {nm : Names} {m : Demangler} (t : ℕ) → Holds nm w N st nothing-spare m → Same i j → recall-copies N t j m ≡ recall-copies N t i m
   same-index {m = m} t h (inl q) = ap (λ (k : ℕ). recall-copies N t k m) (sym q)
   same-index {i} {j} t h (inr p) =
@@ -91,11 +91,11 @@ module _ (N : ℕ) (text : Text) (at : ℕ) {w : List ℕ} {st : State} where
   pub item-broken : {r : Refusal} → Breaks (chain (drop at text)) (number r) → Fails (chained N text at) nothing-spare text w w N st r
   item-broken {r} b = record { fails = λ words m q. ap (λ (ch : Chain). performs N (outcome ch) m) (b .is) ∙ performs-bad N m (number r) (b .rest); beyond = beyond-itself w N }
 
--- whatever is read, some machine lies there
+-- whatever is read, w holds some machine
 pub reads-ready : {text : Text} {w : List ℕ} {N : ℕ} {st : State} {sp : Spare} → Reads text w N st sp → Ready w N st sp
 reads-ready {text} r = record { names = names-of text (r .words); machine = r .machine; holds = r .holds }
 
--- ALL ITEMS: what is left to do from here comes to what the whole does
+-- ALL ITEMS: the remaining work from here has the same result as the whole
 pub record Chaining (N : ℕ) (text : Text) (from at : ℕ) (w w₁ : List ℕ) (st u : State) : Type 0 where
   pub goes : (words : Noted) (m : Demangler) → Holds (names-of text words) w N st nothing-spare m → (m₁ : Demangler) × (chained N text from m ≡ chained N text at m₁) × Holds (names-of text words) w₁ N u nothing-spare m₁
   pub reads : Reads text w₁ N u nothing-spare
@@ -144,6 +144,6 @@ module _ (N : ℕ) (text : Text) (at : ℕ) (w w₁ : List ℕ) (st : State) {r 
   pub was-refused : {x : Refusal} → r ≡ Letter.Refused x → Letters N text at w w₁ st r → Fails (chained N text at) nothing-spare text w w₁ N st x
   was-refused q h = subst (Letters N text at w w₁ st) q h
 
--- of what is recalled
+-- for what is recalled
 pub was-recalled : {w w₁ : List ℕ} {N : ℕ} {st : State} {t i : ℕ} {r : Stepped} (s : Stepped) → r ≡ s → Recalled w w₁ N st t i r → Recalled w w₁ N st t i s
 was-recalled {w} {w₁} {N} {st} {t} {i} s q h = subst (Recalled w w₁ N st t i) q h

@@ -1,4 +1,5 @@
--- What lies in the workspace when more words are known; the name that is read then. Assumes nothing.
+-- What the workspace holds when more words are known, and the name that is read then. Assumes
+-- nothing.
 use mathlib.Core.Path.{_≡_, refl, sym, ap, subst, _∙_}
 use mathlib.Core.Bool.{true, false}
 use mathlib.Core.List.{List, [], _∷_, _++_}
@@ -52,7 +53,7 @@ module _ (text : Text) (ws vs : Noted) (b : Begins (ws .words) (vs .words)) wher
   queue-more w base top [] i d r = r
   queue-more w base top (x ∷ xs) i d r = (r .0, r .1, lies-more x w _ (r .2), queue-more w base top xs (suc i) d (r .3))
 
-  -- with the machine's words as they are noted then
+  -- with the words of the machine as they are noted then
   pub holds-more : {w : List ℕ} {N : ℕ} {st : State} {sp : Spare} {m : Demangler} {all : List Name} → vs .all ≡ all → Holds (names-of text ws) w N st sp m → Holds (names-of text vs) w N st sp (machine (m .budget) (m .stack) (m .substitutions) all)
   holds-more {w} {N} {st} {sp} {m} e h = record {
     small = h .small;
@@ -69,7 +70,8 @@ module _ (text : Text) (ws vs : Noted) (b : Begins (ws .words) (vs .words)) wher
   }
 
 -- THE NAME
--- an identifier that was read becomes a node: what was read, what is known then, and that the name can be spelled
+-- an identifier that was read becomes a node: what was read, what is known then, and that the name
+-- can be spelled
 module _ (N : ℕ) (text : Text) (at : ℕ) (l : at < length text) (e : digit (getD text at 0) ≡ true) where
   came-named : {w w₁ : List ℕ} {st u v : State} {c : Cursor} {m : Demangler} (ws vs : Noted) (name : Name) (a : ℕ) → a ≡ at → length text ≤ 65535 → Charged N st u →
       Holds (names-of text ws) w N st nothing-spare m → Begins (ws .words) (vs .words) → W.identifier (ws .all) (drop at text) ≡ ok (W.identified name (vs .all)) (drop (c .at) text) →
@@ -140,7 +142,7 @@ name-not-begun N text at words {w} x a = record { fails = λ m h. turn-is N (dro
 pub name-room : {N : ℕ} {w : List ℕ} {st u : State} → Charged N st u → Ready w N st nothing-spare → Inside w N u 5 1 1
 name-room {N} {w} g r = let h = (g .gives (r .names) w (r .machine) (r .holds)) .2 in record { small = h .small; long = h .long; charged = h .charged; room = omega (arith, h .room); deep = omega (arith, h .deep); kept = omega (arith, h .kept) }
 
--- an answer of `identifier`
+-- a result of `identifier`
 pub name-read : {out : Out Text W.Identified} {text : Text} {at : ℕ} {w : Words} {r : NameRead} (c : Cursor) → r ≡ NameRead.Read c → Answers.Answered out text at r w → Answers.Reads out text at w c
 name-read {out} {text} {at} {w} c e h = subst (λ (x : NameRead). Answers.Answered out text at x w) e h
 

@@ -1,4 +1,4 @@
--- A turn's beginning, and the operator behind it. Assumes nothing.
+-- The beginning of a turn, and the operator after it. Assumes nothing.
 use mathlib.Core.Path.{_≡_, refl, sym, ap, subst, _∙_}
 use mathlib.Core.Bool.{Bool, true, false}
 use mathlib.Core.List.{List, _∷_}
@@ -46,7 +46,7 @@ use Rattle.read_turns.specs.declared.Turned.the-variants as Turned
 use Rattle.read_turns.specs.declared.Begun.{Begun as Beginning}
 use Rattle.read_turns.specs.declared.Begun.the-variants as Beginning
 
--- A TURN'S BEGINNING
+-- THE BEGINNING OF A TURN
 step-total : (b c : B.Budget) → B.step b ≡ ok tt c → c .total ≡ b .total
 unfolding B.step
 step-total b c = go (ltb (b .steps) 4096)
@@ -111,7 +111,7 @@ pub turn-is : (N : ℕ) (t : Text) (m : Demangler) → turn N (Reading.one N) t 
 unfolding turn
 turn-is N t m = grouped (M.spend B.step m) (M.spend (B.charge N 1)) (Reading.one N t)
 
--- an operator behind a turn's beginning
+-- an operator after the beginning of a turn
 pub turn-then : (N : ℕ) (text : Text) (at : ℕ) (w w₁ : List ℕ) (st u : State) (r : Turned) → Charged N st u → Turning (Reading.one N (drop at text)) full-spare text w w₁ N u r → Turning (turn N (Reading.one N) (drop at text)) nothing-spare text w w₁ N st r
 turn-then N text at w w₁ st u (Turned.To v c) a g = record {
   comes = λ words m h.

@@ -1,4 +1,4 @@
--- What the answers of a turn on records say of the definition's reading.
+-- What the results of a turn on records say about the definition's reading.
 use mathlib.Core.Path.{_≡_}
 use mathlib.Core.List.{List}
 use Prim.Native.Nat.{ℕ, _≤_, _<_}
@@ -36,19 +36,19 @@ use Rattle.read_turns.specs.declared.Turned.the-variants as Turned
 use Rattle.read_turns.specs.declared.Letter.{Letter}
 use Rattle.read_turns.specs.declared.Letter.the-variants as Letter
 
--- some machine lies there, with the names of the body
+-- w holds some machine, with the names of the body
 pub record Reads (text : Text) (w : List ℕ) (N : ℕ) (st : State) (sp : Spare) : Type 0 where
   pub words : Noted
   pub machine : Demangler
   pub holds : Holds (names-of text words) w N st sp machine
 
--- the step comes to the text from c on, and to a machine that lies in the workspace w with u
+-- the step ends at the text from c on, with a machine that the workspace w holds with u
 pub record Came (f : Run Text) (text : Text) (words : Noted) (w : List ℕ) (N : ℕ) (u : State) (c : Cursor) (m : Demangler) : Type 0 where
   pub machine : Demangler
   pub is : f m ≡ ok (drop (c .at) text) machine
   pub holds : Holds (names-of text words) w N u nothing-spare machine
 
--- whatever machine lay there, with as much to spare
+-- for any machine that w held, with that much to spare
 pub record Comes (f : Run Text) (sp : Spare) (text : Text) (w w′ : List ℕ) (N : ℕ) (st u : State) (c : Cursor) : Type 0 where
   pub comes : (words : Noted) (m : Demangler) → Holds (names-of text words) w N st sp m → Came f text words w′ N u c m
   pub inside : c .at ≤ length text
@@ -62,7 +62,7 @@ abbrev pub Turning : Run Text → Spare → Text → (w w′ : List ℕ) (N : �
 Turning f sp text w w′ N st (Turned.To u c) = Comes f sp text w w′ N st u c
 Turning f sp text w w′ N st (Turned.Refused r) = Fails f sp text w w′ N st r
 
--- an operator's letters that were read, then what it does
+-- the letters of an operator that were read, then its effect
 abbrev pub performs : (N : ℕ) → Out Text Op.Operator → Run Text
 performs N out = then-run out (λ op. R.perform N op)
 
@@ -70,7 +70,7 @@ performs N out = then-run out (λ op. R.perform N op)
 abbrev pub chained : (N : ℕ) → Text → ℕ → Run Text
 chained N text at = performs N (outcome (chain (drop at text)))
 
--- one item of `A` is done, and the rest comes to what the whole does
+-- one item of `A` is done, and the rest has the same result as the whole
 pub record Went (N : ℕ) (text : Text) (at : ℕ) (words : Noted) (w : List ℕ) (u : State) (c : Cursor) (m : Demangler) : Type 0 where
   pub machine : Demangler
   pub is : chained N text at m ≡ chained N text (c .at) machine
@@ -122,7 +122,8 @@ pub record NameTurn (N : ℕ) (text : Text) (at : ℕ) (words : Words) (w w′ :
   pub turns : NameTurning N text at words (r .words) w w′ st (r .turn)
   pub fitting : Fitting text (r .words)
 
--- a turn that reads the literal from one place to the cursor as a name: its words are noted, whatever words names look for
+-- a turn that reads the literal from one place to the cursor as a name: its words are noted,
+-- whatever words names use
 pub record PlainCame (N : ℕ) (text : Text) (at from : ℕ) (w w′ : List ℕ) (st u : State) (c : Cursor) : Type 0 where
   pub comes : (words : Noted) (m : Demangler) → Holds (names-of text words) w N st nothing-spare m → Came (turn N (Reading.one N) (drop at text)) text (noted (words .words) (W.note-words (part text from (c .at)) (words .all))) w′ N u c m
   pub order : from ≤ c .at

@@ -1,4 +1,4 @@
-// One turn of the reading's run: an operator's letters are read and performed on records.
+// One turn of the reading's run: reads the letters of an operator and performs it on records.
 ghost use mathlib.Core.Path.{_≡_};
 ghost use mathlib.Core.List.{[], _∷_};
 ghost use Prim.Native.Nat.{_≤_, _<_};
@@ -28,20 +28,20 @@ use substitutions::SubstitutionRead;
 use text::Cursor;
 use words::Words;
 
-// The state after an operator and the cursor behind it, or its refusal.
+// The state after an operator and the cursor after it, or its refusal.
 pub enum Turned {
     To(State, Cursor),
     Refused(Refusal),
 }
 
-// One item behind `A` was performed: more follow, it was the last, or it is refused.
+// One item after `A` was performed: more follow, it was the last, or it is refused.
 pub enum Letter {
     More(State, Cursor),
     Last(State, Cursor),
     Refused(Refusal),
 }
 
-// A turn has begun: its step is counted and its node charged.
+// The beginning of a turn: its step is counted and its node is charged.
 pub enum Begun {
     Next(State),
     Refused(Refusal),
@@ -53,13 +53,14 @@ pub struct NameTurned {
     pub words: Words,
 }
 
-// A turn that reads a literal as a name: the state, where the literal starts, and the cursor behind it; or its refusal.
+// A turn that reads a literal as a name: the state, the start of the literal, and the cursor after
+// it; or its refusal.
 pub enum PlainTurned {
     To(State, usize, Cursor),
     Refused(Refusal),
 }
 
-// The next item behind `A`: so many copies of a remembered node.
+// Performs the next item after `A`: pushes that many copies of a remembered node.
 fn item(text: &[u8], c: Cursor, ws: &mut [u32], n: usize, st: State) -> Letter
     requires { ⌜ Reads (now text) (now ws) n st nothing-spare ⌝ }
     ensures { λ r. ⌜ Letters n (now (text .entry)) (c .at) (now (ws .entry)) (now (ws .exit)) st r ⌝ }
@@ -82,7 +83,7 @@ fn item(text: &[u8], c: Cursor, ws: &mut [u32], n: usize, st: State) -> Letter
     }
 }
 
-// `A`, from the cursor behind it: its items one by one.
+// Performs `A`, from the cursor after it: its items one by one.
 fn substitutions(text: &[u8], from: Cursor, ws: &mut [u32], n: usize, st: State) -> Turned
     requires { ⌜ Reads (now text) (now ws) n st nothing-spare ⌝ }
     ensures { λ r. ⌜ Turning (performs n (outcome (chain (drop (from .at) (now (text .entry)))))) nothing-spare (now (text .entry)) (now (ws .entry)) (now (ws .exit)) n st r ⌝ }
@@ -105,7 +106,7 @@ fn substitutions(text: &[u8], from: Cursor, ws: &mut [u32], n: usize, st: State)
     }
 }
 
-// An operator that was read, but for `A`; the cursor stands behind it.
+// Performs an operator that was read, other than `A`. The cursor is after it.
 fn performed(ws: &mut [u32], n: usize, st: State, op: Operator, next: Cursor) -> Turned
     requires { ⌜ Ready (now ws) n st full-spare ⌝ }
     ensures { λ r. ⌜ Performed (λ fixed. R.perform n (Enums.operator fixed op)) (now (ws .entry)) (now (ws .exit)) n st next r ⌝ }
@@ -116,7 +117,7 @@ fn performed(ws: &mut [u32], n: usize, st: State, op: Operator, next: Cursor) ->
     }
 }
 
-// The operator that begins at the cursor, where no digit stands.
+// Reads and performs the operator at the cursor, where the byte is not a digit.
 fn operated(text: &[u8], c: Cursor, ws: &mut [u32], n: usize, st: State) -> Turned
     requires { ⌜ Reads (now text) (now ws) n st full-spare × (c .at < length (now text)) × (digit (getD (now text) (c .at) 0) ≡ false) ⌝ }
     ensures { λ r. ⌜ Turning (Reading.one n (drop (c .at) (now (text .entry)))) full-spare (now (text .entry)) (now (ws .entry)) (now (ws .exit)) n st r ⌝ }
@@ -128,7 +129,7 @@ fn operated(text: &[u8], c: Cursor, ws: &mut [u32], n: usize, st: State) -> Turn
     }
 }
 
-// A turn begins: a step, and a charge of 1.
+// Begins a turn: counts a step, and charges 1.
 fn begin(n: usize, st: State) -> Begun
     ensures { λ r. ⌜ Begins n st r ⌝ }
 {
@@ -147,7 +148,7 @@ fn begin(n: usize, st: State) -> Begun
     }
 }
 
-// One turn of `run` where no digit stands.
+// One turn of `run` where the byte at the cursor is not a digit.
 pub fn turn(text: &[u8], c: Cursor, ws: &mut [u32], n: usize, st: State) -> Turned
     requires { ⌜ Reads (now text) (now ws) n st nothing-spare × (c .at < length (now text)) × (digit (getD (now text) (c .at) 0) ≡ false) ⌝ }
     ensures { λ r. ⌜ Turning (Calls.turn n (Reading.one n) (drop (c .at) (now (text .entry)))) nothing-spare (now (text .entry)) (now (ws .entry)) (now (ws .exit)) n st r ⌝ }
@@ -158,7 +159,7 @@ pub fn turn(text: &[u8], c: Cursor, ws: &mut [u32], n: usize, st: State) -> Turn
     }
 }
 
-// An identifier that was read at the cursor becomes a node: it is pushed and remembered.
+// Makes a node of an identifier that was read at the cursor, pushes it and remembers it.
 fn name(ws: &mut [u32], n: usize, st: State, at: usize) -> State
     requires { ⌜ Inside (now ws) n st 5 1 1 × (at < 65536) ⌝ }
     ensures { λ r. ⌜ Kept (now (ws .entry)) (now (ws .exit)) n st r (0 ∷ 1 ∷ 0 ∷ at ∷ 0 ∷ 0 ∷ 0 ∷ 0 ∷ []) ⌝ }
@@ -173,7 +174,7 @@ fn name(ws: &mut [u32], n: usize, st: State, at: usize) -> State
     nodes::push_kept(ws, n, st, 0, 1, 0, rest)
 }
 
-// One turn of `run` where a digit stands: a name.
+// One turn of `run` where the byte at the cursor is a digit: a name.
 pub fn name_turn(
     text: &[u8],
     c: Cursor,
@@ -212,7 +213,8 @@ pub fn name_turn(
     }
 }
 
-// One turn of `run` where a digit stands that is no `0`: a literal is the name. Its words are not noted yet.
+// One turn of `run` where the byte at the cursor is a digit other than `0`: a literal is the name.
+// Its words are not noted yet.
 pub fn plain_turn(text: &[u8], c: Cursor, ws: &mut [u32], n: usize, st: State) -> PlainTurned
     requires { ⌜ Ready (now ws) n st nothing-spare × (c .at < length (now text)) × (digit (getD (now text) (c .at) 0) ≡ true) × (is "0" (getD (now text) (c .at) 0) ≡ false) × (length (now text) ≤ 65535) × (Text.well-formed (now text) ≡ true) ⌝ }
     ensures { λ r. ⌜ PlainTurning n (now (text .entry)) (c .at) (now (ws .entry)) (now (ws .exit)) st r ⌝ }

@@ -37,11 +37,11 @@ use Rattle.read_turns.specs.declared.Turned.the-variants as Turned
 use Rattle.read_turns.specs.declared.PlainTurned.{PlainTurned}
 use Rattle.read_turns.specs.declared.PlainTurned.the-variants as PlainTurned
 
--- the words of a table, and with those of all that waits
+-- the words of a table, and with those of all waiting literals
 abbrev pub all-of : Text → Words → Waiting → Noted
 all-of body words waiting = noted (table body words) (noted-behind W.note-words body waiting (table body words))
 
--- THE LOOP: i turns are done, and the rest comes to what the whole does
+-- THE LOOP: i turns are done, and the rest has the same result as the whole
 pub record Running (N k : ℕ) (body : Text) (w w₁ : List ℕ) (i at : ℕ) (words : Words) (waiting : Waiting) (u : State) : Type 0 where
   pub machine : Demangler
   pub is : read N k body ≡ turns (turn N (Reading.one N)) (k - i) (drop at body) machine
@@ -51,7 +51,7 @@ pub record Running (N k : ℕ) (body : Text) (w w₁ : List ℕ) (i at : ℕ) (w
   pub waits : Waits body waiting
   pub beyond : Beyond 64 N w w₁
 
--- nothing lies there
+-- the workspace holds nothing yet
 abbrev pub at-first : Budget → State
 at-first b = record { budget = b; top = 0; depth = 0; seen = 0 }
 
@@ -111,7 +111,7 @@ module _ {N k : ℕ} {body : Text} {w w₁ : List ℕ} {i at : ℕ} {words : Wor
       beyond = beyond-both (h .beyond) (g .beyond);
     }
 
-    -- a literal, which waits then
+    -- a literal, which then waits
     pub plain-more : {w₂ : List ℕ} {v : State} {from : ℕ} (c : Cursor) {longer : Waiting} → PlainCame N body at from w₁ w₂ u v c → More body from (c .at) waiting longer → Running N k body w w₂ (i + 1) (c .at) words longer v
     plain-more {w₂} {v} c g q =
         let o = g .comes (all-of body words waiting) (h .machine) (h .holds) in
@@ -125,7 +125,7 @@ module _ {N k : ℕ} {body : Text} {w w₁ : List ℕ} {i at : ℕ} {words : Wor
           beyond = beyond-both (h .beyond) (g .beyond);
         }
 
-    -- a name, once all that waits is noted
+    -- a name, once all waiting literals are noted
     module _ (known : Words) (e : table body known ≡ noted-behind W.note-words body waiting (table body words)) where
       pub all-noted : Holds (naming body known) w₁ N u nothing-spare (h .machine)
       all-noted =

@@ -1,4 +1,4 @@
--- The one tree that is left, and the stack's entries as numbers. Assumes nothing.
+-- The only tree that is left, and the entries of the stack as numbers. Assumes nothing.
 use mathlib.Core.Path.{_≡_, refl, sym, ap, subst, _∙_}
 use mathlib.Core.Bool.{Bool, true, false}
 use mathlib.Core.List.{List, [], _∷_, _++_, map, reverse, reverse-cons, append-assoc}
@@ -23,7 +23,7 @@ use Rattle.runs.specs.declared.Final.{Final}
 use Rattle.runs.proofs.Numbers.{numbers-snoc}
 use Rattle.reading.specs.Runs.{SingleAt}
 
--- THE ONE TREE
+-- THE ONLY TREE
 -- a stack of one
 pub record Only (nm : Names) (w : List ℕ) (base top : ℕ) (xs : List Node) : Type 0 where
   pub tree : Node
@@ -87,7 +87,7 @@ map-snoc : (xs : List Node) (x : Node) → map entry-of (xs ++ (x ∷ [])) ≡ m
 map-snoc [] x = refl
 map-snoc (y ∷ ys) x = ap (λ (l : List K.Entry). entry-of y ∷ l) (map-snoc ys x)
 
--- they are those of the trees, the first pushed first
+-- they are those of the trees, in the order in which they were pushed
 pub stack-numbers : (nm : Names) (w : List ℕ) (N top : ℕ) (xs : List Node) (d : ℕ) → Stack nm w (60 * N) top xs d → entry-numbers (map entry-of (reverse xs)) ≡ numbers-at w N d
 unfolding numbers-at entry-numbers
 stack-numbers nm w N top [] d r = ap (numbers-at w N) (sym r)
@@ -101,7 +101,7 @@ unfolding numbers-at
 numbers-length w N zero = refl
 numbers-length w N (suc d) = length-append (numbers-at w N d) (at w (getD w (60 * N + d) 0) 0 ∷ at w (getD w (60 * N + d) 0) 1 ∷ at w (getD w (60 * N + d) 0) 2 ∷ []) ∙ omega (arith, numbers-length w N d)
 
--- one number more at the seam
+-- one more number at the seam
 set-seam : (xs o : List ℕ) (k v : ℕ) → length xs ≡ k → k < length o → set (xs ++ drop k o) k v ≡ (xs ++ (v ∷ [])) ++ drop (k + 1) o
 set-seam xs o k v e l =
     let inside : k < length (xs ++ drop k o) = omega (arith, length-append xs (drop k o), length-drop k o) in
@@ -110,7 +110,7 @@ set-seam xs o k v e l =
     let d : drop (suc k) (xs ++ drop k o) ≡ drop (k + 1) o = ap (λ (n : ℕ). drop n (xs ++ drop k o)) (sym z) ∙ (sym (drop-drop 1 k (xs ++ drop k o)) ∙ (ap (drop 1) (drop-at xs (drop k o) k e) ∙ drop-drop 1 k o)) in
     set-split (xs ++ drop k o) k v inside ∙ (rw (t, d) refl ∙ sym (append-snoc xs v (drop (k + 1) o)))
 
--- THE LOOP: the numbers of j entries stand at the front
+-- THE LOOP: the numbers of j entries are at the front
 pub record Filling (w : List ℕ) (N : ℕ) (o o₁ : List ℕ) (j : ℕ) : Type 0 where
   pub is : o₁ ≡ numbers-at w N j ++ drop (3 * j) o
   pub long : length o₁ ≡ length o
@@ -154,7 +154,7 @@ fill-none {w} {N} {st} {o} l nm m h =
     let s : entry-numbers (map entry-of (reverse (m .stack))) ≡ numbers-at w N (st .depth) = stack-numbers nm w N (st .top) (m .stack) (st .depth) (h .stack) in
     record { past = omega (arith, ap length s, numbers-length w N (st .depth)); same = refl }
 
--- a place on the stack is that of a record
+-- a place on the stack is the place of a record
 place-of : (nm : Names) (w : List ℕ) (base top : ℕ) (xs : List Node) (d j : ℕ) → Stack nm w base top xs d → j < d → getD w (base + j) 0 < top
 place-of nm w base top [] d j r l = absurd (omega (arith, r))
 place-of nm w base top (x ∷ xs) d j r l = go (λ (k : j < r .0). place-of nm w base top xs (r .0) j (r .4) k) (ltb j (r .0)) refl

@@ -1,4 +1,4 @@
--- What the answers of a run on records say of the definition's reading.
+-- What the results of a run on records say about the definition's reading.
 use mathlib.Core.Path.{_≡_}
 use mathlib.Core.List.{List, []}
 use Prim.Native.Nat.{ℕ, _-_, _≤_, _<_}
@@ -42,7 +42,7 @@ pub record Ran (N k : ℕ) (body : Text) (w w′ : List ℕ) (words : Words) (u 
   pub fitting : Fitting body words
   pub beyond : Beyond 64 N w w′
 
--- the operator that is refused began at the place `at` of the body
+-- the refused operator began at the place `at` of the body
 pub record Stopped (N k : ℕ) (body : Text) (w w′ : List ℕ) (r : Refusal) (at : ℕ) : Type 0 where
   pub is : read N k body ≡ stopped (number r) (length body - at)
   pub inside : at ≤ length body
@@ -53,7 +53,7 @@ Ending N k body w w′ words (Ended.Ran u) = Ran N k body w w′ words u
 Ending N k body w w′ words (Ended.Stopped r at) = Stopped N k body w w′ r at
 
 -- ENDS
--- the one tree on the stack lies at place p
+-- the only tree on the stack is at place p
 pub record SingleAt (w : List ℕ) (N : ℕ) (st : State) (what : Final) (p : ℕ) (nm : Names) (m : Demangler) : Type 0 where
   pub tree : Node
   pub is : single kind (kinds-of what) (m .stack) ≡ some tree

@@ -1,4 +1,4 @@
-// The reading's run, one turn after another, and what its end comes to.
+// The reading's run, turn by turn, and the result at its end.
 ghost use mathlib.Core.Path.{_≡_};
 ghost use mathlib.Core.Bool.{true};
 ghost use mathlib.Core.List.{map, reverse};
@@ -28,19 +28,20 @@ use waiting::note_waiting;
 use waiting::wait;
 use words::Words;
 
-// The state at a run's end; or the refusal, and where in the body the operator began that is refused.
+// The state at the end of a run; or the refusal, and the place in the body where the refused
+// operator begins.
 pub enum Ended {
     Ran(State),
     Stopped(Refusal, usize),
 }
 
-// A run's end, and the words that names are spelled with then.
+// The end of a run, and the words that names are then spelled with.
 pub struct Reached {
     pub end: Ended,
     pub words: Words,
 }
 
-// The place of the one tree that is left, if it is of a kind that is taken.
+// The place of the only tree that is left, if its kind is accepted.
 pub enum Sole {
     At(usize),
     Nothing,
@@ -48,8 +49,9 @@ pub enum Sole {
 
 // Runs
 
-// `run` by its turns: k of them, or fewer if the body ends. It starts afresh, whatever the workspace holds. The words of a name that is a literal are noted
-// only when a name comes that may look for them, one that begins with `0`.
+// Performs the turns of `run`: k of them, or fewer if the body ends. It starts anew, whatever the
+// workspace holds. The words of a name that is a literal are noted only before a name that may use
+// them, one that begins with `0`, or where 16 literals wait.
 pub fn run(body: &[u8], k: usize, ws: &mut [u32], n: usize) -> Reached
     requires { ⌜ (64 * n ≤ length (now ws)) × (n ≤ 65536) × (length (now body) ≤ 65535) × (Text.well-formed (now body) ≡ true) ⌝ }
     ensures { λ r. ⌜ Ending n k (now (body .entry)) (now (ws .entry)) (now (ws .exit)) (r .words) (r .end) ⌝ }
@@ -134,7 +136,7 @@ pub fn run(body: &[u8], k: usize, ws: &mut [u32], n: usize) -> Reached
 
 // Ends
 
-// The one tree that is left, if it is of a kind that is taken.
+// Returns the only tree that is left, if its kind is accepted.
 pub fn single(ws: &[u32], n: usize, st: State, what: Final) -> Sole
     requires { ⌜ Ready (now ws) n st nothing-spare ⌝ }
     ensures { λ r. ⌜ Singles (now (ws .entry)) n st what r ⌝ }
@@ -150,7 +152,8 @@ pub fn single(ws: &[u32], n: usize, st: State, what: Final) -> Sole
     Sole::Nothing
 }
 
-// The stack's entries, three numbers each, the first pushed first: each tree's kind, size and count.
+// Writes the entries of the stack, three numbers each, in the order in which they were pushed: the
+// kind, size and count of each tree.
 pub fn write_stack(ws: &[u32], n: usize, st: State, out: &mut [u32]) -> Written
     requires { ⌜ Ready (now ws) n st nothing-spare ⌝ }
     ensures { λ r. ⌜ ((nm : Names) (m : R.Demangler) → Holds nm (now (ws .entry)) n st nothing-spare m → Writing (Calls.entry-numbers (map entry-of (reverse (m .stack)))) (now (out .entry)) (now (out .exit)) r) ⌝ }

@@ -1,4 +1,4 @@
--- What a record is about.
+-- The subject of a record.
 use mathlib.Core.Path.{_≡_, refl, sym, ap, _∙_, subst}
 use mathlib.Core.Bool.{true}
 use mathlib.Core.List.{List, _∷_}
@@ -31,7 +31,7 @@ use Rattle.nodes.proofs.OneChilds.{taken-place, taken-not}
 abbrev pub Not : Run Node → ℕ → (w w₁ : List ℕ) (N : ℕ) (st : State) → Type 0
 Not f r w w₁ N st = ((nm : Names) (sp : Spare) (m : Demangler) → Holds nm w N st sp m → f m ≡ refused r) × Beyond 64 N w w₁
 
--- WHAT A RECORD IS ABOUT
+-- THE SUBJECT OF A RECORD
 -- a tree that gives back less
 pub builds-less : (f : Run Node) (gain : ℕ) (w w′ : List ℕ) (N : ℕ) (st : State) (r : Built) → 1 ≤ gain → Builds f 1 gain w w′ N st r → Builds f 1 1 w w′ N st r
 builds-less f gain w w′ N st (Built.Place p u) l g = record {
@@ -93,7 +93,7 @@ pub anything : R.pop-if (λ k. true) ≡ R.about (Enums.about About.Anything)
 unfolding R.about Enums.about M.pop
 anything = refl
 
--- WHAT THE CODE ASKS
+-- WHAT THE CODE REQUIRES
 -- the size that was read
 pub left-sized : {w w′ : List ℕ} {N : ℕ} {st u : State} {k z y : ℕ} {vs : List ℕ} → z ≡ y → Left w w′ N st u (k ∷ (z + 1) ∷ vs) → Left w w′ N st u (k ∷ (y + 1) ∷ vs)
 left-sized {w} {w′} {N} {st} {u} {k} {z} {y} {vs} e l = subst (λ (i : ℕ). Left w w′ N st u (k ∷ (i + 1) ∷ vs)) e l

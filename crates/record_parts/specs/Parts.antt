@@ -1,4 +1,4 @@
--- What the parts of the records of words say of the definition's steps.
+-- What the parts of the records of words say about the definition's steps.
 use mathlib.Core.Path.{_≡_}
 use mathlib.Core.List.{List}
 use mathlib.Core.Option.{Option}
@@ -12,7 +12,8 @@ use Rattle.records.specs.Holds.{Names, Named, Spare, Holds, Keeps}
 use Rattle.records.specs.declared.State.{State}
 use Rattle.record_parts.specs.declared.Qualified.{Qualified}
 
--- a protocol was taken if there was one, and its cell lies in w: wherever field 6 of a later record is its place
+-- a protocol was taken if there was one, and w holds its cell: for any later record whose field 6
+-- is its place
 pub record Qualifier (nm : Names) (w : List ℕ) (N : ℕ) (r : Qualified) (sp : Spare) (m : Demangler) : Type 0 where
   pub protocol : Option Node
   pub machine : Demangler

@@ -1,4 +1,4 @@
-// What a record of words is about, its record, and the qualifier of an associated conformance.
+// The subject of a record of words, its record, and the qualifier of an associated conformance.
 ghost use mathlib.Core.List.{List, [], _∷_};
 ghost use Prim.Native.Nat.{ℕ, _+_, _≤_};
 ghost use Rattle.definition.specs.Enums as Enums;
@@ -17,14 +17,14 @@ use records::Fields;
 use records::Popped;
 use records::State;
 
-// The form of an associated conformance with its qualifier's cell, and the state then.
+// The form of an associated conformance with the cell of its qualifier, and the state after that.
 pub struct Qualified {
     pub form: u32,
     pub cell: u32,
     pub next: State,
 }
 
-// A tree that was taken, as one that is built.
+// Returns a tree that was taken as one that is built.
 fn built(r: Popped) -> Built
     ensures { λ b. ⌜ ((f : R.Run Node) (gain : ℕ) (w w′ : List ℕ) (N : ℕ) (st : State-of) → 1 ≤ gain → Takes f gain w w′ N st r → Builds f 1 1 w w′ N st b) ⌝ }
 {
@@ -34,7 +34,7 @@ fn built(r: Popped) -> Built
     }
 }
 
-// What a record is about.
+// The subject of a record.
 pub fn about(ws: &mut [u32], n: usize, st: State, what: About) -> Built
     requires { ⌜ Ready (now ws) n st (spare 0 0 1 0) ⌝ }
     ensures { λ r. ⌜ Builds (R.about (Enums.about what)) 1 1 (now (ws .entry)) (now (ws .exit)) n st r ⌝ }
@@ -49,7 +49,7 @@ pub fn about(ws: &mut [u32], n: usize, st: State, what: About) -> Built
     }
 }
 
-// A record of words over the tree at place p, on top of the stack. The form says which words c and d are.
+// Pushes a record of words over the tree at place p. The form says what the words c and d are.
 pub fn push_record(
     ws: &mut [u32],
     n: usize,
@@ -73,7 +73,8 @@ pub fn push_record(
     nodes::push_new(ws, n, st, 26, size + 1, 0, rest)
 }
 
-// The protocol on top that qualifies an associated conformance, if there is one: in a cell of its own.
+// Takes the protocol on top that qualifies an associated conformance, if there is one, and puts it
+// in a cell of its own.
 pub fn qualifier(ws: &mut [u32], n: usize, st: State) -> Qualified
     requires { ⌜ Ready (now ws) n st nothing-spare ⌝ }
     ensures { λ r. ⌜ Qualifies (now (ws .entry)) (now (ws .exit)) n st r ⌝ }

@@ -1,4 +1,4 @@
--- A tree that lies in the workspace stays where the records at its place and below stay.
+-- A tree in the workspace is unchanged if the records at its place and below are unchanged.
 use mathlib.Core.Path.{_≡_, refl, sym, ap, _∙_, subst}
 use mathlib.Core.Bool.{Bool}
 use mathlib.Core.List.{List, [], _∷_}
@@ -24,7 +24,7 @@ pub record Agree (f g : ℕ → ℕ) : Type 0 where
 pub agree-at : {w w′ : List ℕ} {b : ℕ} (q : ℕ) → q < b → Same w w′ (8 * b) → Agree (at w q) (at w′ q)
 agree-at q h s = record { on = λ k l. s .on (8 * q + k) (omega arith) }
 
--- what a record said it says again, where its fields, and the numbers below it, stay
+-- a record says the same again if its fields, and the numbers below it, are unchanged
 pub record Moves (B C : Says) : Type 1 where
   pub says : {f g : ℕ → ℕ} {w w′ : List ℕ} (p : ℕ) → Agree f g → Same w w′ (8 * p) → B f w p → C g w′ p
 
@@ -119,7 +119,7 @@ module _ (Named Named′ : ℕ → Name → Type 0) (more : (k : ℕ) (n : Name)
   pub lies-move : (x : Node) {w w′ : List ℕ} (p b : ℕ) → p < b → Same w w′ (8 * b) → Lies Named x w p → Lies Named′ x w′ p
   lies-move x p b h s r = would-move x p (agree-at p h s) (same-below (8 * p) (omega arith) s) r
 
--- with the names as they were: the record just written is this tree, and older trees survive
+-- with the same names: the record just written is this tree, and older trees are unchanged
 module _ (Named : ℕ → Name → Type 0) where
   pub would-stay : (x : Node) {f g : ℕ → ℕ} {w w′ : List ℕ} (p : ℕ) → Agree f g → Same w w′ (8 * p) → Would Named x f w p → Would Named x g w′ p
   would-stay = would-move Named Named (λ k n h. h)

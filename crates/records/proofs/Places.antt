@@ -1,4 +1,5 @@
--- The stack and the remembered nodes stay where their places and the records stay; one more place.
+-- The stack and the remembered nodes are unchanged if their places and the records are unchanged;
+-- one more place.
 use mathlib.Core.Path.{_≡_, refl, sym, ap, _∙_, subst}
 use mathlib.Core.Logic.{_≢_}
 use mathlib.Core.List.{List, [], _∷_, _++_}
@@ -17,7 +18,7 @@ use Rattle.records.specs.declared.State.{State}
 use Rattle.records.proofs.Frame.{Same, lies-still}
 use Rattle.records.proofs.Stores.{made}
 
--- the places from base on, below d, stay
+-- the places from base on, below d, are unchanged
 pub record SamePlaces (w w′ : List ℕ) (base d : ℕ) : Type 0 where
   pub on : (i : ℕ) → i < d → getD w′ (base + i) 0 ≡ getD w (base + i) 0
 

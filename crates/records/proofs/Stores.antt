@@ -1,4 +1,4 @@
--- Several stores in a row, as code makes them, and what they leave as it was.
+-- Several stores in a row, as code makes them, and what they leave unchanged.
 use mathlib.Core.Path.{_≡_, refl, sym, ap, _∙_}
 use mathlib.Core.Logic.{_≢_}
 use mathlib.Core.List.{List, [], _∷_}

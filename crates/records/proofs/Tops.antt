@@ -1,4 +1,4 @@
--- The top of the stack, whatever machine lies in the workspace.
+-- The top of the stack, for any machine that the workspace holds.
 use mathlib.Core.Path.{_≡_, refl, sym, ap, _∙_, subst}
 use mathlib.Core.List.{List, [], _∷_}
 use Prim.Native.Nat.{ℕ, suc, _+_, _-_, _*_, _^_, _≤_, _<_}

@@ -1,5 +1,5 @@
--- How the machine of trees lies in the workspace: records below 60 × N, the stack's places from there on, those of the remembered nodes
--- from 61 × N on.
+-- How the machine of trees is stored in the workspace: records below 60 × N, the places of the
+-- stack from there on, those of the remembered nodes from 61 × N on.
 use mathlib.Core.Path.{_≡_}
 use mathlib.Core.List.{List, [], _∷_, _++_}
 use Prim.Native.Nat.{ℕ, suc, _+_, _-_, _*_, _^_, _≤_, _<_}
@@ -18,7 +18,7 @@ use Rattle.records.specs.declared.State.{State}
 use Rattle.records.specs.declared.Popped.{Popped}
 use Rattle.records.specs.declared.Popped.the-variants as Popped
 
--- the fixed names that operators use of themselves, by number
+-- the fixed names that operators use, by number
 pub record Fixed (name : ℕ → String) : Type 0 where
   pub swift : name 0 ≡ "Swift"
   pub any-object : name 3 ≡ "AnyObject"
@@ -26,8 +26,8 @@ pub record Fixed (name : ℕ → String) : Type 0 where
   pub associated-type : name 133 ≡ "associated type descriptor for "
   pub past : (n : ℕ) → 134 ≤ n → name n ≡ ""
 
--- where names come from: the text, the words that identifiers in it look for, the fixed names by number; and the words noted by now, of which the
--- first are those that are looked for
+-- the sources of names: the text, the words that identifiers in it use, the fixed names by number;
+-- and the words noted so far, of which the first are those that identifiers use
 pub record Names : Type 0 where
   pub text : Text
   pub words : List Name
@@ -35,23 +35,26 @@ pub record Names : Type 0 where
   pub fixed : ℕ → String
   pub known : Fixed fixed
 
--- the number k stands for the name n: an identifier at that offset of the text, whose words, if it looked for any, are known; or, from 65,536 on, a fixed name; the last number of 32 bits stands for no name, since it says that a label is missing
+-- The number k represents the name n: an identifier at that offset of the text, whose words, if it
+-- uses any, are known; or, from 65,536 on, a fixed name. The last number of 32 bits represents no
+-- name, because it says that a label is missing
 pub data Named (nm : Names) (k : ℕ) (n : Name) : Type 0 where
   spelled : (words : List Name) (r : W.Identified) (u : Text) → k < 65536 → W.identifier words (drop k (nm .text)) ≡ ok r u → Looked (drop k (nm .text)) (r .words) (nm .words) → r .name ≡ n → Named nm k n
   fixed : 65536 ≤ k → k < 4294967295 → bytes (nm .fixed (k - 65536)) ≡ n → Named nm k n
 
--- the sizes of trees together
+-- the sum of the sizes of trees
 unfoldable pub weight : List Node → ℕ
 weight [] = 0
 weight (x ∷ xs) = size x + weight xs
 
 module _ (nm : Names) (w : List ℕ) (base top : ℕ) where
-  -- the trees at d places that stand from base on, the last pushed first; each place is below top
+  -- the trees at the d places that are stored from base on, the last pushed first; each place is
+  -- below top
   abbrev pub Stack : List Node → ℕ → Type 0
   Stack [] d = d ≡ 0
   Stack (x ∷ xs) d = (e : ℕ) × (d ≡ suc e) × (getD w (base + e) 0 < top) × Lies (Named nm) x w (getD w (base + e) 0) × Stack xs e
 
-  -- the trees at the places that stand from base + i to base + d, the oldest first
+  -- the trees at the places that are stored from base + i to base + d, the oldest first
   abbrev pub Queue : List Node → ℕ → ℕ → Type 0
   Queue [] i d = i ≡ d
   Queue (x ∷ xs) i d = (i < d) × (getD w (base + i) 0 < top) × Lies (Named nm) x w (getD w (base + i) 0) × Queue xs (suc i) d
@@ -69,7 +72,8 @@ pub record Spare : Type 0 where
   pub nodes : ℕ
   pub keeps : ℕ
 
--- the numbers alone: the workspace is long enough, and what lies in it is within what was charged, with so much to spare
+-- only the numbers: the workspace is long enough, and its contents are within what was charged,
+-- with that much to spare
 pub record Inside (w : List ℕ) (N : ℕ) (st : State) (makes pushes keeps : ℕ) : Type 0 where
   pub small : N ≤ 65536
   pub long : 64 * N ≤ length w
@@ -78,7 +82,7 @@ pub record Inside (w : List ℕ) (N : ℕ) (st : State) (makes pushes keeps : �
   pub deep : st .depth + pushes ≤ st .budget .total
   pub kept : st .seen + keeps ≤ st .budget .total
 
--- the machine m lies in w, with as much to spare
+-- w holds the machine m, with that much to spare
 pub record Holds (nm : Names) (w : List ℕ) (N : ℕ) (st : State) (sp : Spare) (m : Demangler) : Type 0 where
   pub small : N ≤ 65536
   pub long : 64 * N ≤ length w
@@ -92,7 +96,7 @@ pub record Holds (nm : Names) (w : List ℕ) (N : ℕ) (st : State) (sp : Spare)
   pub substitutions : Queue nm w (seen-base N) (st .top) (m .substitutions) 0 (st .seen)
   pub words : nm .noted ≡ m .words
 
--- some machine does
+-- w holds some machine
 pub record Ready (w : List ℕ) (N : ℕ) (st : State) (sp : Spare) : Type 0 where
   pub names : Names
   pub machine : Demangler
@@ -108,7 +112,7 @@ for-push z sp = record { makes = sp .makes + 3; pushes = sp .pushes + 1; nodes =
 abbrev pub for-keeping : Spare → Spare
 for-keeping sp = record { makes = sp .makes; pushes = sp .pushes; nodes = sp .nodes; keeps = sp .keeps + 1 }
 
--- the tree at place p was the top of the machine m; the rest lies in w with u
+-- the tree at place p was the top of the machine m; w holds the rest with u
 pub record TopIs (nm : Names) (w : List ℕ) (N : ℕ) (top p : ℕ) (u : State) (sp : Spare) (m : Demangler) : Type 0 where
   pub tree : Node
   pub rest : List Node
@@ -117,7 +121,7 @@ pub record TopIs (nm : Names) (w : List ℕ) (N : ℕ) (top p : ℕ) (u : State)
   pub lies : Lies (Named nm) tree w p
   pub holds : Holds nm w N u (for-push (size tree) sp) (restack rest m)
 
--- what a pop gives, whatever machine lay there
+-- what a pop gives, for any machine that w held
 pub record Took (w : List ℕ) (N : ℕ) (st : State) (p : ℕ) (u : State) : Type 0 where
   pub deep : st .depth ≡ suc (u .depth)
   pub top : u .top ≡ st .top
@@ -130,14 +134,15 @@ abbrev pub Pops : (w : List ℕ) (N : ℕ) (st : State) → Popped → Type 0
 Pops w N st (Popped.Place p u) = Took w N st p u
 Pops w N st Popped.Nothing = (nm : Names) (sp : Spare) (m : Demangler) → Holds nm w N st sp m → m .stack ≡ []
 
--- the records below the place top stay, the trees in them too, and so does everything past 64 × N
+-- the records below the place top are unchanged, and so are the trees in them and everything past
+-- 64 × N
 pub record Keeps (w w′ : List ℕ) (N top : ℕ) : Type 0 where
   pub trees : (nm : Names) (x : Node) (p : ℕ) → p < top → Lies (Named nm) x w p → Lies (Named nm) x w′ p
   pub fields : (p k : ℕ) → p < top → k < 8 → at w′ p k ≡ at w p k
   pub past : (i : ℕ) → 64 * N ≤ i → getD w′ i 0 ≡ getD w i 0
   pub long : length w′ ≡ length w
 
--- one record more, of these numbers
+-- one more record, of these numbers
 pub record Grew (w w′ : List ℕ) (N : ℕ) (st u : State) (vs : List ℕ) : Type 0 where
   pub state : u ≡ record { budget = st .budget; top = st .top + 1; depth = st .depth; seen = st .seen }
   pub holds : (nm : Names) (sp : Spare) (m : Demangler) → Holds nm w N st (for-record sp) m → Holds nm w′ N u sp m

@@ -1,5 +1,6 @@
--- How a tree lies in the workspace of 32-bit numbers: one record of 8 numbers a node, at place p in w[8p .. 8p + 8].
--- The first three numbers of every record are kind, size and count. Children, and the cells of lists, lie at smaller places.
+-- How a tree is stored in the workspace of 32-bit numbers: one record of 8 numbers for each node,
+-- at place p in w[8p .. 8p + 8]. The first three numbers of every record are kind, size and count.
+-- Children, and the cells of lists, are at smaller places.
 use mathlib.Core.Path.{_≡_}
 use mathlib.Core.Bool.{Bool, true, false}
 use mathlib.Core.List.{List, [], _∷_}
@@ -16,7 +17,7 @@ use Rattle.definition.specs.Node.{Labels, Node, Nodes, nil, cons, Identifier, M
 abbrev pub at : List ℕ → ℕ → ℕ → ℕ
 at w p k = getD w (8 * p + k) 0
 
--- what a record says where its fields are f, it stands in w, and its place is p
+-- what a record says if its fields are f, it is in w, and its place is p
 abbrev pub Says : Type 1
 Says = (f : ℕ → ℕ) (w : List ℕ) (p : ℕ) → Type 0
 
@@ -27,7 +28,7 @@ pub record Lay (f : ℕ → ℕ) (kind size count : ℕ) (B : Type 0) : Type 0 w
   pub count-is : f 2 ≡ count
   pub body : B
 
--- field k of a record f at place p is a smaller place, of which R holds
+-- field k of a record f at place p is a smaller place, for which R holds
 pub record Child (f : ℕ → ℕ) (p k : ℕ) (R : ℕ → Type 0) : Type 0 where
   pub place : ℕ
   pub is : f k ≡ place
@@ -50,13 +51,15 @@ flag true = 1
 abbrev pub absent : ℕ
 absent = 4294967295
 
--- Named k n: the number k stands for the name n (an offset in the text, or 65,536 and more for a fixed name)
+-- Named k n: the number k represents the name n (an offset in the text, or 65,536 and more for a
+-- fixed name)
 module _ (Named : ℕ → Name → Type 0) where
   abbrev pub LabelIs : Option Name → ℕ → Type 0
   LabelIs none k = k ≡ absent
   LabelIs (some n) k = Named k n
 
-  -- the labels of a function: cells from the place in field k on, as many as field k + 1 says less 1; 0 there says that it has none
+  -- the labels of a function: cells from the place in field k on, as many as field k + 1 says minus
+  -- 1; 0 there says that it has none
   abbrev pub LabelCells : List (Option Name) → ℕ → Says
   LabelCells [] k f w p = Unit
   LabelCells (l ∷ ls) k f w p = Child f p k (λ q. LabelIs l (at w q 3) × LabelCells ls 5 (at w q) w q)
@@ -65,13 +68,13 @@ module _ (Named : ℕ → Name → Type 0) where
   LabelList none k f w p = f (k + 1) ≡ 0
   LabelList (some ls) k f w p = (f (k + 1) ≡ suc (length ls)) × LabelCells ls k f w p
 
-  -- the words of a record: a fixed text, or those that have a number in them
+  -- the words of a record: a fixed text, or a text that contains a number
   pub data WordsOf (what : Name) (f : ℕ → ℕ) : Type 0 where
     fixed : f 3 ≡ 0 → Named (f 5) what → WordsOf what f
     numbered : (i : ℕ) → f 3 ≡ 3 → what ≡ suspend-resume-text i → Wide 5 i f → WordsOf what f
 
-  -- Field 3 of a record says its form: 0 fixed words, 1 a lazy witness, 2 and 4 an associated conformance with no qualifier and with one,
-  -- 3 words with a number
+  -- Field 3 of a record says its form: 0 fixed words, 1 a lazy witness, 2 and 4 an associated
+  -- conformance with no qualifier and with one, 3 words with a number
   abbrev mutual
     pub Body : Node → Says
     Body (Identifier n) f w p = Named (f 3) n
@@ -113,10 +116,10 @@ module _ (Named : ℕ → Name → Type 0) where
     Cells nil k f w p = Unit
     Cells (cons l n ns) k f w p = Child f p k (λ q. LabelIs l (at w q 3) × Kid n (λ f₁ w₁ p₁. Body n f₁ w₁ p₁) 4 (at w q) w q × Cells ns 5 (at w q) w q)
 
-  -- the record f, if it is put at place p of w, is the tree x
+  -- the record f, if it is stored at place p of w, is the tree x
   abbrev pub Would : Node → Says
   Would x f w p = Lay f (kind x) (size x) (count x) (Body x f w p)
 
-  -- the tree x lies at place p of w
+  -- the tree x is stored at place p of w
   abbrev pub Lies : Node → List ℕ → ℕ → Type 0
   Lies x w p = Would x (at w p) w p

@@ -1,4 +1,5 @@
-// Trees as records in a lent workspace of 32-bit numbers: 8 numbers a record, children by place.
+// Trees as records in a lent workspace of 32-bit numbers: 8 numbers for each record, children given
+// by place.
 ghost use mathlib.Core.Path.{_≡_};
 ghost use mathlib.Core.List.{List, [], _∷_};
 ghost use Prim.Native.Nat.{_+_, _*_, _^_, _≤_, _<_};
@@ -8,7 +9,7 @@ ghost use Rattle.records.specs.Made.{Wrote};
 ghost use Rattle.records.specs.Holds.{Inside, Pops, Grew, Pushed, Remembered};
 use budget::Budget;
 
-// The counts, how many records there are, and how many places lie on the stack and are remembered.
+// The counts, the number of records, and the numbers of places on the stack and remembered.
 pub struct State {
     pub budget: Budget,
     pub top: usize,
@@ -22,7 +23,7 @@ pub enum Popped {
     Nothing,
 }
 
-// The fields of a record behind its kind, size and count.
+// The fields of a record after its kind, size and count.
 pub struct Fields {
     pub a: u32,
     pub b: u32,
@@ -31,7 +32,7 @@ pub struct Fields {
     pub e: u32,
 }
 
-// Field k of the record at place p.
+// Returns field k of the record at place p.
 pub fn field(ws: &[u32], p: usize, k: usize) -> u32
     requires { ⌜ (8 * p + 8 ≤ length (now ws)) × (k < 8) ⌝ }
     ensures { λ r. ⌜ r ≡ at (now (ws .entry)) p k ⌝ }
@@ -39,7 +40,7 @@ pub fn field(ws: &[u32], p: usize, k: usize) -> u32
     ws[8 * p + k]
 }
 
-// One record, at place p.
+// Writes one record at place p.
 pub fn make(ws: &mut [u32], p: usize, kind: u32, size: u32, count: u32, rest: Fields)
     requires { ⌜ 8 * p + 8 ≤ length (now ws) ⌝ }
     ensures { λ _. ⌜ Wrote (now (ws .entry)) (now (ws .exit)) p (kind ∷ size ∷ count ∷ rest .a ∷ rest .b ∷ rest .c ∷ rest .d ∷ rest .e ∷ []) ⌝ }
@@ -61,7 +62,7 @@ pub fn wide(x: u32) -> usize
     x as usize
 }
 
-// The top of the stack.
+// Takes the top of the stack.
 pub fn pop(ws: &[u32], n: usize, st: State) -> Popped
     requires { ⌜ Inside (now ws) n st 0 0 0 ⌝ }
     ensures { λ r. ⌜ Pops (now (ws .entry)) n st r ⌝ }
@@ -77,7 +78,7 @@ pub fn pop(ws: &[u32], n: usize, st: State) -> Popped
     Popped::Place(p, next)
 }
 
-// One record more, at the place st.top.
+// Adds a record at the place st.top.
 pub fn grow(
     ws: &mut [u32],
     n: usize,
@@ -97,7 +98,7 @@ pub fn grow(
     next
 }
 
-// The place p on top of the stack.
+// Pushes the place p.
 pub fn push(ws: &mut [u32], n: usize, st: State, p: usize) -> State
     requires { ⌜ Inside (now ws) n st 3 1 0 ⌝ }
     requires { ⌜ p < 2 ^ 32 ⌝ }
@@ -110,7 +111,7 @@ pub fn push(ws: &mut [u32], n: usize, st: State, p: usize) -> State
     next
 }
 
-// The place p is remembered.
+// Remembers the place p.
 pub fn remember(ws: &mut [u32], n: usize, st: State, p: usize) -> State
     requires { ⌜ Inside (now ws) n st 0 0 1 ⌝ }
     requires { ⌜ p < 2 ^ 32 ⌝ }

@@ -38,7 +38,7 @@ use Rattle.nodes.proofs.Ready.{after-given, room}
 use Rattle.entity_records.specs.Leaves.{Entity, Ends}
 use Rattle.requirements.specs.Required.{GivesSubject, TakesSubject, MakesMember, TwoOver, Constrains, Constraining, required}
 
--- SIZES OF WHAT IS MADE, whatever the names are
+-- SIZES OF WHAT IS MADE, for any names
 some-fixed : ℕ → String
 some-fixed n = if eqb n 0 then "Swift" else if eqb n 3 then "AnyObject" else if eqb n 28 then "Optional" else if eqb n 133 then "associated type descriptor for " else ""
 
@@ -79,7 +79,7 @@ member-made {w} {w₁} {w₂} {N} {st} {v} {p} {r} {name} {a} g e h = record {
   holds = λ nm sp m q. h .holds nm sp m (g .holds nm (for-record sp) m q);
 }
 
--- the state behind a node that was made has room for another, and its place fits
+-- the state after a node was made has room for another, and its place fits
 module _ {x : (ℕ → String) → Node} {w w₁ : List ℕ} {N : ℕ} {st : State} {r : Placed} (q : Ready w N st (spare 4 0 0 0)) (g : Makes x 2 w w₁ N st r) where
   pub made-room : Inside w₁ N (r .next) 2 0 0
   made-room = let h = g .holds (q .names) (spare 2 0 0 0) (q .machine) (q .holds) in record { small = h .small; long = h .long; charged = h .charged; room = h .room; deep = h .deep; kept = h .kept }
@@ -169,7 +169,7 @@ pair-record w kind p q = kind ∷ (at w p 1 + at w q 1 + 1) ∷ 0 ∷ p ∷ q �
 pub left-pair : {w w′ : List ℕ} {N : ℕ} {st u : State} {k a b a′ b′ : ℕ} {vs : List ℕ} → a ≡ a′ → b ≡ b′ → Left w w′ N st u (k ∷ (a + b + 1) ∷ vs) → Left w w′ N st u (k ∷ (a′ + b′ + 1) ∷ vs)
 left-pair p q g = rw (← p, ← q) g
 
--- the record over two trees that lie
+-- the record over two trees that w holds
 pair-left : {k : ℕ} {c : Node → Node → Node} → TwoOver k c → (nm : Names) (x y : Node) {w w′ : List ℕ} {N : ℕ} {st u : State} {p q : ℕ} (m : Demangler) → p < st .top → q < st .top → Lies (Named nm) x w p → Lies (Named nm) y w q → Left w w′ N st u (pair-record w k p q) → Holds nm w N st (for-record (for-push (1 + (size x + size y)) nothing-spare)) m → Holds nm w′ N u nothing-spare (restack (c x y ∷ m .stack) m)
 pair-left {k} {c} o nm x y {w} {w′} {N} {st} {u} {p} {q} m lp lq a b l h =
     l .holds nm nothing-spare m (c x y) (subst (λ (z : ℕ). Holds nm w N st (for-record (for-push z nothing-spare)) m) (sym (o .size-is x y)) h)
@@ -214,7 +214,7 @@ module _ {w : List ℕ} {N : ℕ} {st : State} {p : ℕ} (on : Constraining w N 
   unfolding R.requirement E.constraint
   same-type {w₁} {w₂} {u} {v} c e g l = subst (λ (y : Constraint). Constrains y w w₂ N st p (Step.Done v)) (sym e) (record { ends = λ nm s f a. pair-ends g same-type-two l nm s a; beyond = pair-beyond g l })
 
-  -- nothing that is wanted on top
+  -- nothing wanted is on top
   pub conforms-not : {w₁ : List ℕ} (c : Constraint) → c ≡ Constraint.Conforms → ((nm : Names) (sp : Spare) (m : Demangler) → Holds nm w N st sp m → R.protocol m ≡ refused 10) × Beyond 64 N w w₁ → Constrains c w w₁ N st p (Step.Refused Refusal.Stack)
   unfolding R.requirement E.constraint number
   conforms-not {w₁} c e g = subst (λ (y : Constraint). Constrains y w w₁ N st p (Step.Refused Refusal.Stack)) (sym e) (record { ends = λ nm s f a m h. rw (g .0 nm _ m h) refl; beyond = g .1 })
@@ -297,11 +297,11 @@ module _ (on : Subject) (c : Constraint) {w w₁ : List ℕ} {N : ℕ} {st : Sta
       long = z .beyond .long ∙ g .keeps .long;
     }
 
--- the type on top, as it is answered
+-- the type on top, as in the result
 pub subject-popped : (on : Subject) (w : List ℕ) (N : ℕ) (st : State) (r : Popped) → on ≡ Subject.OfStack → Takes (R.pop-if K.is-type) 3 w w N st r → TakesSubject (R.subject (E.subject on)) w w N st r
 subject-popped on w N st (Popped.Place p u) e g = subject-stack on e g
 subject-popped on w N st Popped.Nothing e g = subject-no-type on e g
 
--- the answer for the constraint that was matched
+-- the result for the constraint that was matched
 pub constrains-at : (c c′ : Constraint) {w w′ : List ℕ} {N : ℕ} {st : State} {p : ℕ} {r : Step} → c ≡ c′ → Constrains c′ w w′ N st p r → Constrains c w w′ N st p r
 constrains-at c c′ {w} {w′} {N} {st} {p} {r} e h = subst (λ (y : Constraint). Constrains y w w′ N st p r) (sym e) h

@@ -1,4 +1,4 @@
--- What the code of requirements says of the definition's steps.
+-- What the code of requirements says about the definition's steps.
 use mathlib.Core.Path.{_≡_}
 use mathlib.Core.List.{List}
 use Prim.Native.Nat.{ℕ, _+_, _≤_, _<_}
@@ -22,7 +22,8 @@ use Rattle.records.specs.declared.Popped.the-variants as Popped
 use Rattle.entity_records.specs.Leaves.{Ends}
 
 -- REQUIREMENTS
--- the step f gave the tree that lies at p, which costs at most one record and one node more than what was taken
+-- the step f gave the tree that is stored at p, which costs at most one record and one node more
+-- than what was taken
 pub record GivenSubject (f : Run Node) (nm : Names) (w : List ℕ) (N p : ℕ) (u : State) (sp : Spare) (m : Demangler) : Type 0 where
   pub tree : Node
   pub machine : Demangler
@@ -41,7 +42,7 @@ abbrev pub TakesSubject : Run Node → (w w′ : List ℕ) (N : ℕ) (st : State
 TakesSubject f w w′ N st (Popped.Place p u) = GivesSubject f w w′ N st p u
 TakesSubject f w w′ N st Popped.Nothing = ((nm : Names) (sp : Spare) (m : Demangler) → Holds nm w N st sp m → f m ≡ refused 10) × Beyond 64 N w w′
 
--- a member type of a generic parameter was made, of the name that a number stands for
+-- a member type of a generic parameter was made, with the name that a number represents
 pub record MakesMember (p : Param) (name : ℕ) (w w′ : List ℕ) (N : ℕ) (st : State) (r : Placed) : Type 0 where
   pub below : r .place < r .next .top
   pub small : at w′ (r .place) 1 ≤ most
@@ -56,12 +57,12 @@ pub record TwoOver (k : ℕ) (c : Node → Node → Node) : Type 0 where
   pub count-is : (x y : Node) → count (c x y) ≡ 0
   pub body : (nm : Names) (x y : Node) (f : ℕ → ℕ) (w : List ℕ) (p : ℕ) → Child f p 3 (λ q. Lies (Named nm) x w q) → Child f p 4 (λ q. Lies (Named nm) y w q) → Body (Named nm) (c x y) f w p
 
--- what a requirement's constraint takes and leaves, whose subject lies at p
+-- what the constraint of a requirement takes and leaves, if its subject is at p
 pub record Constrains (constraint : Constraint) (w w′ : List ℕ) (N : ℕ) (st : State) (p : ℕ) (r : Step) : Type 0 where
   pub ends : (nm : Names) (s : Node) → Fixed (nm .fixed) → Lies (Named nm) s w p → Ends (requirement s (E.constraint constraint)) nm (spare 13 1 (size s + 3) 0) w w′ N st r
   pub beyond : Beyond 64 N w w′
 
--- a subject lies at p, and there is room for its requirement
+-- a subject is at p, and there is room for its requirement
 pub record Constraining (w : List ℕ) (N : ℕ) (st : State) (p : ℕ) : Type 0 where
   pub ready : Ready w N st (spare 13 1 3 0)
   pub below : p < st .top

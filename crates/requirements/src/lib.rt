@@ -22,7 +22,7 @@ use records::Fields;
 use records::Popped;
 use records::State;
 
-// A member type of a generic parameter.
+// Makes a member type of a generic parameter.
 fn member(ws: &mut [u32], n: usize, st: State, p: Param, name: u32) -> Placed
     requires { ⌜ Ready (now ws) n st (spare 4 0 0 0) ⌝ }
     ensures { λ r. ⌜ MakesMember p name (now (ws .entry)) (now (ws .exit)) n st r ⌝ }
@@ -43,7 +43,7 @@ fn member(ws: &mut [u32], n: usize, st: State, p: Param, name: u32) -> Placed
     }
 }
 
-// What a requirement constrains.
+// Takes what a requirement constrains.
 fn subject(ws: &mut [u32], n: usize, st: State, subject: Subject) -> Popped
     requires { ⌜ Ready (now ws) n st full-spare ⌝ }
     ensures { λ r. ⌜ TakesSubject (R.subject (E.subject subject)) (now (ws .entry)) (now (ws .exit)) n st r ⌝ }
@@ -66,7 +66,7 @@ fn subject(ws: &mut [u32], n: usize, st: State, subject: Subject) -> Popped
     }
 }
 
-// A requirement over the trees at two places.
+// Pushes a requirement over the trees at two places.
 fn push_pair(ws: &mut [u32], n: usize, st: State, kind: u32, p: usize, q: usize) -> State
     requires { ⌜ Entity (now ws) n st p q ⌝ }
     requires { ⌜ Inside (now ws) n st 5 1 0 ⌝ }
@@ -83,7 +83,7 @@ fn push_pair(ws: &mut [u32], n: usize, st: State, kind: u32, p: usize, q: usize)
     nodes::push_new(ws, n, st, kind, size + 1, 0, rest)
 }
 
-// A layout: the requirement says AnyObject; a letter that reads as none is refused.
+// Pushes a layout requirement, which says AnyObject. An invalid letter is refused.
 fn layout(ws: &mut [u32], n: usize, st: State, p: usize, reads: bool) -> Step
     requires { ⌜ Constraining (now ws) n st p ⌝ }
     ensures { λ r. ⌜ Constrains (Constraint.Layout reads) (now (ws .entry)) (now (ws .exit)) n st p r ⌝ }
@@ -95,7 +95,7 @@ fn layout(ws: &mut [u32], n: usize, st: State, p: usize, reads: bool) -> Step
     Step::Refused(Refusal::Spelling)
 }
 
-// The constraint on the subject at place p.
+// Applies the constraint to the subject at place p.
 fn constrain(ws: &mut [u32], n: usize, st: State, p: usize, constraint: Constraint) -> Step
     requires { ⌜ Constraining (now ws) n st p ⌝ }
     ensures { λ r. ⌜ Constrains constraint (now (ws .entry)) (now (ws .exit)) n st p r ⌝ }

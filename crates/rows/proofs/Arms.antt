@@ -1,4 +1,4 @@
--- What the arms of a match on a row's number tell of marks. Assumes nothing.
+-- What the arms of a match on the number of a row say about marks. Assumes nothing.
 use mathlib.Core.Path.{_≡_, refl, sym, ap, subst}
 use mathlib.Core.Bool.{Bool, true, false, _&&_, _||_, true≢false, false≢true}
 use mathlib.Core.List.{List, [], _∷_}
@@ -9,11 +9,11 @@ use lib.Dec.{eqb}
 use lib.ListN.{getD}
 use Rattle.definition.proofs.Arms.{Passed}
 
--- in the arm of k: the list's mark there
+-- in the arm of k: the mark of the list there
 pub marked : (xs : List ℕ) {row k : ℕ} → row ≡ k → eqb (getD xs k 0) 1 ≡ eqb (getD xs row 0) 1
 marked xs e = sym (ap (λ (i : ℕ). eqb (getD xs i 0) 1) e)
 
--- marks that stand at the keys alone
+-- marks that are only at the keys
 unfoldable pub among : ℕ → List ℕ → Bool
 among k [] = false
 among k (x ∷ xs) = eqb k x || among k xs

@@ -34,7 +34,8 @@ by-code = Take.Refuses ∷ Take.Wraps ∷ Take.Node Want.Type ∷ Take.Node Want
 unfoldable pub decoded : ℕ → Take
 decoded k = getD by-code k Take.Refuses
 
--- a row's codes in one number: five bits a code, the first the least, 0 ends the row
+-- the codes of a row in one number: five bits for each code, the first code in the least
+-- significant bits, 0 ends the row
 abbrev pub codes : List ℕ
 codes = 230 ∷ 230 ∷ 230 ∷ 230 ∷ 230 ∷ 0 ∷ 0 ∷ 0 ∷ 0 ∷ 0 ∷ 0 ∷ 0 ∷ 0 ∷ 0 ∷ 0 ∷ 0 ∷ 0 ∷ 65 ∷ 641 ∷ 16197921 ∷ 673 ∷ 2753 ∷ 65 ∷ 65 ∷ 205 ∷ 8 ∷ 2 ∷ 2 ∷ 0 ∷ 24 ∷ 258 ∷ 66 ∷ 66 ∷ 2 ∷ 770 ∷ 8397 ∷ 2253 ∷ 2253 ∷ 205 ∷ 24781 ∷ 23 ∷ 253492709368882 ∷ 241552962 ∷ 241552962 ∷ 26011356738 ∷ 7917074 ∷ 7 ∷ 5 ∷ 3 ∷ 2 ∷ 3 ∷ 7 ∷ 8 ∷ 2311 ∷ 4 ∷ 26282247 ∷ 2 ∷ 73955 ∷ 200 ∷ 841168264 ∷ []
 
@@ -54,7 +55,7 @@ abbrev pub unless-ended : Bool → List C.Take → List C.Take
 unless-ended true ts = []
 unless-ended false ts = ts
 
--- at most n takes, from a row's codes
+-- at most n takes, from the codes of a row
 unfoldable pub takes-from : ℕ → ℕ → List C.Take
 takes-from c zero = []
 takes-from c (suc n) = unless-ended (eqb (c % 32) 0) (take-of (decoded (c % 32)) ∷ takes-from (c / 32) n)

@@ -1,4 +1,5 @@
-// The shape check's rules as a table: what each row takes and leaves, and the row of each operator.
+// The rules of the shape check as a table: what each row takes and leaves, and the row of each
+// operator.
 ghost use mathlib.Core.Path.{_≡_};
 ghost use Prim.Native.Nat.{_+_, _*_, _≤_, _<_};
 ghost use lib.Dec.{eqb};
@@ -14,15 +15,18 @@ use definition::Subject;
 use entries::Take;
 use kinds::Want;
 
-// How many copies of what a row leaves are charged and pushed; once, it is pushed and not charged.
+// How many copies of the entry that a row leaves are charged and pushed. `Once`: it is pushed and
+// not charged.
 pub enum Copies {
     Once,
     Times(usize),
 }
 
-// The rows. What a row has is found by a `match`: a constant array is copied at each use.
+// The rows. The contents of a row are found with a `match`, because a constant array is copied at
+// each use.
 
-// The codes of a row's takes in one number: five bits a code, the first the least, 0 ends the row.
+// The codes of a row's takes in one number: five bits for each code, the first code in the least
+// significant bits, 0 ends the row.
 pub fn codes_of(row: usize) -> usize
     requires { ⌜ row < 60 ⌝ }
     ensures { λ r. ⌜ r ≡ getD codes row 0 ⌝ }
@@ -91,7 +95,7 @@ pub fn codes_of(row: usize) -> usize
     }
 }
 
-// The take of a code.
+// Returns the take of a code.
 pub fn decode(code: usize) -> Take
     requires { ⌜ (1 ≤ code) × (code ≤ 25) ⌝ }
     ensures { λ r. ⌜ r ≡ decoded code ⌝ }
@@ -125,7 +129,8 @@ pub fn decode(code: usize) -> Take
     }
 }
 
-// What each row leaves: its kind, the nodes of its own, whether it has the count, whether it is remembered.
+// What each row leaves: its kind, its own number of nodes, whether it has the count, and whether it
+// is remembered.
 pub fn kind_of(row: usize) -> u32
     requires { ⌜ row < 60 ⌝ }
     ensures { λ r. ⌜ r ≡ getD kinds row 0 ⌝ }
@@ -391,7 +396,7 @@ fn record_row(a: About) -> usize
     49 + about_index(a)
 }
 
-// The row of an operator.
+// Returns the row of an operator.
 pub fn row_of(op: Operator) -> usize
     ensures { λ r. ⌜ r ≡ row-of op ⌝ }
 {
@@ -425,7 +430,7 @@ pub fn row_of(op: Operator) -> usize
     }
 }
 
-// How many copies an operator asks for.
+// Returns how many copies an operator asks for.
 pub fn times_of(op: Operator) -> Copies
     ensures { λ r. ⌜ r ≡ times-of op ⌝ }
 {

@@ -5,7 +5,7 @@ use Prim.Native.Nat.{ℕ}
 use Rattle.definition.specs.Kind as K
 use Rattle.definition.specs.Calls.{entry-numbers}
 
--- one entry more at the end
+-- one more entry at the end
 pub numbers-snoc : (es : List K.Entry) (e : K.Entry) → entry-numbers (es ++ (e ∷ [])) ≡ entry-numbers es ++ (e .kind ∷ e .size ∷ e .count ∷ [])
 unfolding entry-numbers
 numbers-snoc [] e = refl

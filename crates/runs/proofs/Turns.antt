@@ -1,4 +1,5 @@
--- Turns at a place of the body, and steps one after another, whatever machine they run over. Assumes nothing.
+-- Turns at a place of the body, and steps one after another, for any machine that they run over.
+-- Assumes nothing.
 use mathlib.Core.Path.{_≡_, refl, sym, ap, _∙_}
 use mathlib.Core.List.{_∷_}
 use Prim.Native.Nat.{ℕ, zero, suc, _+_, _-_, _≤_, _<_}

@@ -1,4 +1,4 @@
--- What is taken at a run's end, and the output slice of a stopped one.
+-- What is accepted at the end of a run, and the output slice of a stopped run.
 use mathlib.Core.Path.{_≡_}
 use mathlib.Core.Bool.{Bool}
 use mathlib.Core.List.{List, _++_}
@@ -11,18 +11,18 @@ use Rattle.runs.specs.declared.Final.the-variants as Final
 use Rattle.runs.specs.declared.Written.{Written}
 use Rattle.runs.specs.declared.Written.the-variants as Written
 
--- the kinds that a call takes
+-- the kinds that a call accepts
 abbrev pub kinds-of : Final → ℕ → Bool
 kinds-of Final.Symbol = symbol-kind
 kinds-of Final.Type = K.is-type
 
--- the numbers xs stand at the front of the slice, and the rest is as it was
+-- the numbers xs are at the front of the slice, and the rest is unchanged
 pub record Front (xs out out₁ : List ℕ) (n : ℕ) : Type 0 where
   pub many : n ≡ length xs
   pub within : n ≤ length out
   pub is : out₁ ≡ xs ++ drop n out
 
--- there are more of them than the slice holds, and it is as it was
+-- there are more of them than the slice holds, and it is unchanged
 pub record TooMany (xs out out₁ : List ℕ) : Type 0 where
   pub past : length out < length xs
   pub same : out₁ ≡ out

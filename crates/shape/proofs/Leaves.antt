@@ -36,7 +36,7 @@ use Rattle.rows.specs.declared.Copies.the-variants as Copies
 use Rattle.stores.specs.declared.Step.{Step}
 use Rattle.stores.specs.declared.Step.the-variants as Step
 
--- every row leaves one node of its own at least, and five at the most
+-- every row leaves at least one node of its own, and at most five
 and-left : (a b : Bool) → (a && b) ≡ true → a ≡ true
 and-left true b e = refl
 and-left false b e = e
@@ -128,7 +128,7 @@ module _ {j N : ℕ} {w : List ℕ} {st : State} (s : Sound j N w st) where
   pub sound-seen : st .seen + j ≤ st .budget .total
   sound-seen = omega (arith, s .fits .kept, length-seen w N (st .seen))
 
-  -- the stack lies inside the workspace
+  -- the stack is inside the workspace
   pub sound-inside : 3 * st .depth ≤ length w
   sound-inside = omega (arith, sound-depth, s .total, s .long)
 

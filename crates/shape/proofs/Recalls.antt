@@ -57,7 +57,7 @@ all-at P [] i a q = absurd (let z : _≡_ {A = ℕ} 0 1 = cc in omega arith)
 all-at P (x ∷ es) zero {e} a q = let p : x ≡ e = cc in subst P p (a .0)
 all-at P (x ∷ es) (suc i) a q = all-at P es i (a .1) q
 
--- each remembered entry is one node at least
+-- each remembered entry is at least one node
 pub seen-size : {N : ℕ} {w : List ℕ} {st : State} {i : ℕ} {e : Entry} → Sound 0 N w st → i < st .seen → entry-of e ≡ entry-at w (N + i) → 1 ≤ e .size
 seen-size {N} {w} {st} {i} {e} s h q = all-at (Bounded (st .budget .total)) (seen-of w N (st .seen)) i (s .fits .remembered) (seen-at w N (st .seen) i h ∙ ap some (sym q)) .0
 

@@ -1,4 +1,4 @@
--- The takes of a row, one after the other. Assumes nothing.
+-- The takes of a row, one after another. Assumes nothing.
 use mathlib.Core.Path.{_≡_, refl, sym, ap, subst, _∙_}
 use mathlib.Core.Bool.{Bool, true, false, _&&_, _||_, not}
 use mathlib.Core.List.{List, [], _∷_}
@@ -26,7 +26,7 @@ use Rattle.entries.specs.declared.Taking.the-variants as Taking
 use Rattle.rows.specs.Table.{codes, decoded, unless-ended, takes-from, row-takes}
 use Rattle.shape.specs.Performs.{Light, RowWent, RowRefused}
 
--- THE TABLE: a list is never counted on from an entry's count
+-- THE TABLE: a list never continues from the count of an entry
 unfoldable pub any-grows : List C.Take → Bool
 any-grows [] = false
 any-grows (t ∷ ts) = grows t || any-grows ts
@@ -47,7 +47,7 @@ and-right : (a b : Bool) → (a && b) ≡ true → b ≡ true
 and-right true b e = e
 and-right false b e = absurd (let z : _≡_ {A = ℕ} 0 1 = cc in omega arith)
 
--- what holds of each number below n
+-- what holds for each number below n
 all-below : (ℕ → Bool) → ℕ → Bool
 all-below p zero = true
 all-below p (suc n) = p n && all-below p n
@@ -65,7 +65,7 @@ good-rows : (r : ℕ) → r < 60 → good (row-takes r) ≡ true
 unfolding all-below good any-grows takes-from decoded
 good-rows r h = all-from (λ n. good (row-takes n)) 60 r h refl
 
--- each of n codes is one of a take, or 0
+-- each of n codes is the code of a take, or 0
 pub small : ℕ → ℕ → Bool
 small c zero = true
 small c (suc n) = leb (c % 32) 25 && small (c / 32) n

@@ -1,4 +1,4 @@
--- A machine that fits its charged total does so after each operator. Assumes nothing.
+-- A machine that fits its charged total also fits it after each operator. Assumes nothing.
 use mathlib.Core.Path.{_≡_, ap}
 use mathlib.Core.List.{List}
 use Prim.Native.Nat.{ℕ, _≤_}

@@ -1,5 +1,5 @@
-// The shape check's one interpreter, and what a row leaves. The stack's entries stand in the lent workspace
-// from place 0 on, the remembered ones from place N on, three numbers each.
+// The shape check's only interpreter, and what a row leaves. The entries of the stack are stored in
+// the lent workspace from place 0 on, the remembered ones from place N on, three numbers each.
 ghost use Prim.Native.Nat.{_+_, _-_, _*_, _^_, _≤_, _<_};
 ghost use Rattle.rows.specs.Table.{row-leaves};
 ghost use Rattle.entries.specs.Lies.{entry-of, taken-of};
@@ -29,7 +29,7 @@ use stores::remember;
 
 // The interpreter
 
-// All takes of a row.
+// Performs all takes of a row.
 fn take_row(ws: &[u32], st: State, row: usize) -> Taking
     requires { ⌜ Light (now ws) st × (row < 60) ⌝ }
     ensures { λ r. ⌜ RowTaking (now (ws .entry)) st row r ⌝ }
@@ -65,7 +65,7 @@ fn take_row(ws: &[u32], st: State, row: usize) -> Taking
 
 // What is written
 
-// An entry on the stack, once and not charged, or so many copies of it.
+// Pushes an entry, either once and not charged, or that many copies of it.
 fn put_on(ws: &mut [u32], ceiling: usize, st: State, copies: Copies, e: Entry) -> Step
     requires { ⌜ Puts ceiling (now ws) st × (1 ≤ e .size) ⌝ }
     ensures { λ r. ⌜ Performing (put ceiling copies (entry-of e)) ceiling (now (ws .entry)) (now (ws .exit)) st r ⌝ }
@@ -76,7 +76,7 @@ fn put_on(ws: &mut [u32], ceiling: usize, st: State, copies: Copies, e: Entry) -
     }
 }
 
-// The entry that a row leaves.
+// Returns the entry that a row leaves.
 fn left_by(row: usize, a: Taken) -> Entry
     requires { ⌜ (row < 60) × (a .size ≤ 2 ^ 21) × (a .count < 2 ^ 32) ⌝ }
     ensures { λ r. ⌜ LeftBy row a r ⌝ }
@@ -97,7 +97,7 @@ fn left_by(row: usize, a: Taken) -> Entry
     }
 }
 
-// What a row leaves.
+// Pushes what a row leaves.
 fn leave(ws: &mut [u32], ceiling: usize, st: State, row: usize, a: Taken, copies: Copies) -> Step
     requires { ⌜ Roomy ceiling (now ws) st × (row < 60) × (a .size ≤ 2 ^ 21) × (a .count < 2 ^ 32) ⌝ }
     ensures { λ r. ⌜ Performing (C.leave ceiling (row-leaves row copies) (taken-of a)) ceiling (now (ws .entry)) (now (ws .exit)) st r ⌝ }
@@ -110,7 +110,7 @@ fn leave(ws: &mut [u32], ceiling: usize, st: State, row: usize, a: Taken, copies
     put_on(ws, ceiling, st, copies, e)
 }
 
-// One operator of the check, but for `A`.
+// Performs one operator of the check, other than `A`.
 pub fn perform(ws: &mut [u32], ceiling: usize, st: State, op: Operator) -> Step
     requires { ⌜ Sound 1 ceiling (now ws) st ⌝ }
     ensures { λ r. ⌜ Performs op ceiling (now (ws .entry)) (now (ws .exit)) st r ⌝ }
@@ -122,7 +122,7 @@ pub fn perform(ws: &mut [u32], ceiling: usize, st: State, op: Operator) -> Step
     }
 }
 
-// A name: it is remembered and pushed, and so many words are known.
+// A name: it is remembered and pushed. `words` is then the number of known words.
 pub fn name(ws: &mut [u32], ceiling: usize, st: State, words: usize) -> State
     requires { ⌜ Sound 1 ceiling (now ws) st ⌝ }
     ensures { λ r. ⌜ Wrote (Ch.name ceiling words) ceiling (now (ws .entry)) (now (ws .exit)) st r ⌝ }
@@ -138,7 +138,7 @@ pub fn name(ws: &mut [u32], ceiling: usize, st: State, words: usize) -> State
     push(ws, ceiling, kept, e)
 }
 
-// A letter of `A`: so many copies of a remembered entry, by its index.
+// A letter of `A`: pushes that many copies of a remembered entry, which is given by its index.
 pub fn recall(ws: &mut [u32], ceiling: usize, st: State, times: usize, index: usize) -> Step
     requires { ⌜ Sound 0 ceiling (now ws) st ⌝ }
     ensures { λ r. ⌜ Performing (recall-copies ceiling times index) ceiling (now (ws .entry)) (now (ws .exit)) st r ⌝ }

@@ -1,4 +1,4 @@
--- Labels: what lies in the workspace, and what is shown. Assumes nothing.
+-- Labels: what the workspace holds, and what is shown. Assumes nothing.
 use mathlib.Core.Path.{_≡_, refl, sym, ap, subst, _∙_}
 use mathlib.Core.Bool.{true, false}
 use mathlib.Core.List.{List, [], _∷_, _++_, append-assoc}

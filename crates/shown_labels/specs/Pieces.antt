@@ -1,4 +1,5 @@
--- The text of a record as a row of pieces, and what the functions of this crate say. Assumes nothing.
+-- The text of a record as a row of pieces, and what the functions of this crate say. Assumes
+-- nothing.
 use mathlib.Core.Path.{_≡_}
 use mathlib.Core.Bool.{Bool, true, false, _&&_}
 use mathlib.Core.List.{List, [], _∷_, _++_}
@@ -32,7 +33,7 @@ pub record Reach (ws : List ℕ) (l : Labels) : Type 0 where
   pub field : l .field < 8
   pub long : 8 * l .host + 8 ≤ length ws
 
--- where no labels are
+-- there are no labels
 abbrev pub none-at : ℕ → Labels
 none-at p = record { host = p; field = 6; left = 0 }
 
@@ -40,12 +41,12 @@ abbrev pub listed : D.Labels → List (Option Name)
 listed none = []
 listed (some ls) = ls
 
--- these labels lie there
+-- these labels are stored there
 pub record LabelsIn (nm : Names) (ws : List ℕ) (ls : List (Option Name)) (l : Labels) : Type 0 where
   pub count : l .left ≡ length ls
   pub cells : LabelCells (Named nm) ls (l .field) (at ws (l .host)) ws (l .host)
 
--- some labels do
+-- some labels are stored there
 pub record SomeLabels (ws : List ℕ) (l : Labels) : Type 0 where
   pub reach : Reach ws l
   pub names : Names
@@ -65,23 +66,24 @@ pub record NextLabels (ws : List ℕ) (l r : Labels) : Type 0 where
 abbrev pub labels-at : List ℕ → ℕ → Labels
 labels-at ws p = record { host = p; field = 6; left = at ws p 7 - 1 }
 
--- the label that is shown: the first of the labels, `_` where that is the marker, else the element's own
+-- the label that is shown: the first of the labels, `_` where that is the marker, otherwise the
+-- element's own
 abbrev pub label-now : List (Option Name) → Option Name → Option Name
 label-now [] own = own
 label-now (l ∷ ls) own = some (given l (bytes "_") (λ n. n))
 
--- a label as it stands before a type
+-- a label as it is printed before a type
 unfoldable pub prefix : Option Name → Name
 prefix none = []
 prefix (some l) = l ++ bytes ": "
 
--- a name's number, and the name with `: `
+-- the number of a name, and the name with `: `
 pub record NamedLabel (nm : Names) (k : ℕ) (s : Name) : Type 0 where
   pub name : Name
   pub named : Named nm k name
   pub is : s ≡ prefix (some name)
 
--- an element's own label has the number own
+-- the element's own label has the number own
 pub record Labelling (nm : Names) (ws : List ℕ) (own : ℕ) (l : Labels) (s : Name) : Type 0 where
   pub label : Option Name
   pub own-is : LabelIs (Named nm) label own
@@ -99,13 +101,13 @@ own true l = l
 own false l = none
 
 -- TREES
--- the text of a tree that lies at p
+-- the text of a tree that is stored at p
 pub record Prints (nm : Names) (ws : List ℕ) (p : ℕ) (s : Name) : Type 0 where
   pub tree : Node
   pub lies : Lies (Named nm) tree ws p
   pub is : s ≡ print tree
 
--- its text in another way, with labels
+-- its text printed in another way, with labels
 abbrev pub Way : Type 0
 Way = Printed → D.Labels → Name
 
@@ -126,12 +128,13 @@ pub record Printing (way : Way) (nm : Names) (ws : List ℕ) (p : ℕ) (l : Labe
   pub is : s ≡ way (printing tree) labels
 
 -- LISTS
--- the elements' texts with their labels
+-- the texts of the elements with their labels
 unfoldable pub with-labels : Bool → List (Option Name) → List Element → List Name
 with-labels shown ls [] = []
 with-labels shown ls (e ∷ es) = labelled (label-now ls (own shown (e .0))) (e .1) ∷ with-labels shown (behind-first ls) es
 
--- the text of the cells from field k of the record at host on, where i of n elements are put already; sep is the number of the text between them
+-- the text of the cells from field k of the record at host on, where i of n elements are already
+-- put; sep is the number of the text between them
 pub record Listed (nm : Names) (ws : List ℕ) (host k n i sep : ℕ) (shown : Bool) (l : Labels) (s : Name) : Type 0 where
   pub nodes : Nodes
   pub cells : Cells (Named nm) nodes k (at ws host) ws host
@@ -140,7 +143,7 @@ pub record Listed (nm : Names) (ws : List ℕ) (host k n i sep : ℕ) (shown : B
   pub are : LabelsIn nm ws labels l
   pub is : s ≡ left sep i (with-labels shown labels (printed-elements nodes))
 
--- the text of one cell, with what stands before it
+-- the text of one cell, with what is printed before it
 pub record Celled (nm : Names) (ws : List ℕ) (cell i sep : ℕ) (shown : Bool) (l : Labels) (s : Name) : Type 0 where
   pub label : Option Name
   pub label-is : LabelIs (Named nm) label (at ws cell 3)
@@ -155,7 +158,7 @@ pub record Celled (nm : Names) (ws : List ℕ) (cell i sep : ℕ) (shown : Bool)
 abbrev pub wide-at : List ℕ → ℕ → ℕ → ℕ
 wide-at ws p k = at ws p k + 2 ^ 32 * at ws p (k + 1)
 
--- codes 24 to 31: what depends on the record's numbers alone
+-- codes 24 to 31: what depends only on the numbers of the record
 abbrev pub init-name : List ℕ → ℕ → Name
 init-name ws p = if eqb (at ws p 3) 1 && eqb (at ws (at ws p 4) 0) K.class then text-of 29 else text-of 30
 
@@ -166,7 +169,8 @@ leaf-text ws p code =
     if eqb code 26 then generic-param-name (wide-at ws p 3) (wide-at ws p 5) else
     if eqb code 27 then init-name ws p else suspend-resume-text (wide-at ws p 5)
 
--- codes 32 to 39: lists. 32 a tuple's elements, 33 a composition's members, 34 a signature's requirements, 35 a qualifier, 36 arguments, 37 a key and its value
+-- codes 32 to 39: lists. 32 the elements of a tuple, 33 the members of a composition, 34 the
+-- requirements of a signature, 35 a qualifier, 36 arguments, 37 a key and its value
 unfoldable pub list-field : ℕ → ℕ
 list-field code = getD (3 ∷ 3 ∷ 6 ∷ 6 ∷ 5 ∷ 5 ∷ []) (code - 32) 0
 
@@ -179,8 +183,9 @@ list-shown code = eqb code 32
 unfoldable pub list-count : List ℕ → ℕ → ℕ → ℕ
 list-count ws p code = if ltb code 34 then at ws p 2 else if eqb code 34 then at ws p 5 else if eqb code 35 then 1 else at ws p 4
 
--- The text of a piece: codes 8 to 15 the name in field code - 8; 16 to 23 the child in field code - 16; 24 to 31 by the numbers alone; 32 to 39
--- lists; 40 the type in field 5 behind a function's name; 41 the parameters in field 3; from 64 on the fixed text of the number code - 64
+-- The text of a piece: codes 8 to 15 the name in field code - 8; 16 to 23 the child in field code -
+-- 16; 24 to 31 from the numbers only; 32 to 39 lists; 40 the type in field 5 after the name of a
+-- function; 41 the parameters in field 3; from 64 on the fixed text with number code - 64
 pub record Plain (nm : Names) (ws : List ℕ) (p code : ℕ) (s : Name) : Type 0 where
   pub text : 64 ≤ code → (code < 101) × (s ≡ text-of (code - 64))
   pub name : code < 16 → (8 ≤ code) × Named nm (at ws p (code - 8)) s
@@ -190,12 +195,13 @@ pub record Plain (nm : Names) (ws : List ℕ) (p code : ℕ) (s : Name) : Type 0
   pub signed : code ≡ 40 → (at ws p 5 < p) × Printing signed-way nm ws (at ws p 5) (labels-at ws p) s
   pub params : 41 ≤ code → code < 64 → (at ws p 3 < p) × Printing params-way nm ws (at ws p 3) (none-at p) s
 
--- from 128 on, the piece of the code less 128 in the record in field 4
+-- from 128 on, the piece of the code minus 128 in the record in field 4
 pub record Piece (nm : Names) (ws : List ℕ) (p code : ℕ) (s : Name) : Type 0 where
   pub own : code < 128 → Plain nm ws p code s
   pub via : 128 ≤ code → (at ws p 4 < p) × Plain nm ws (at ws p 4) (code - 128) s
 
--- the text of a row: its pieces' codes are its digits by 256, the first the least
+-- the text of a row: the codes of its pieces are its digits in base 256, the first the least
+-- significant
 pub data Pieces (nm : Names) (ws : List ℕ) (p : ℕ) : ℕ → Name → Type 0 where
   nothing : Pieces nm ws p 0 []
   one : {row : ℕ} {s : Name} → 0 < row → row < 256 → Piece nm ws p row s → Pieces nm ws p row s
@@ -205,7 +211,7 @@ abbrev pub pack : List ℕ → ℕ
 pack [] = 0
 pack (c ∷ cs) = c + 256 * pack cs
 
--- the rows by form: the kinds' numbers, and from 35 on the forms that some kinds have besides
+-- the rows by form: the numbers of the kinds, and from 35 on the additional forms of some kinds
 unfoldable pub rows : List ℕ
 rows =
     -- Identifier
@@ -297,11 +303,12 @@ rows =
 abbrev pub zero-or : ℕ → ℕ → ℕ → ℕ
 zero-or n a b = if eqb n 0 then a else b
 
--- the form of a Record: by its field 3
+-- the form of a Record: given by its field 3
 abbrev pub record-form : ℕ → ℕ
 record-form n = if eqb n 0 then 26 else if ltb n 4 then 35 + n else 39
 
--- the form of a record of a kind, whose fields are f: below is the kind of the record in field 4, sugar what `sugar` answers
+-- the form of a record of a kind with fields f: below is the kind of the record in field 4, sugar
+-- the result of `sugar`
 unfoldable pub form-of : (kind : ℕ) (f : ℕ → ℕ) (below sugar : ℕ) → ℕ
 form-of kind f below sugar =
     if eqb kind K.generic-signature then zero-or (f 5) 12 40 else

@@ -13,14 +13,15 @@ use naming::put_text;
 use records::field;
 use records::wide;
 
-// A function's labels that are still to be used: so many cells, the first at the place in that field of the record at host.
+// The labels of a function that are still to be used: how many cells, and the field of the record
+// at host that has the place of the first.
 pub struct Labels {
     host: usize,
     field: usize,
     left: usize,
 }
 
-// Field k of the record at place p.
+// Returns field k of the record at place p.
 pub fn get(ws: &[u32], p: usize, k: usize) -> usize
     requires { ⌜ (8 * p + 8 ≤ length (now ws)) × (k < 8) ⌝ }
     ensures { λ r. ⌜ (r ≡ field-of (now (ws .entry)) p k) × (r < 2 ^ 32) ⌝ }
@@ -28,7 +29,7 @@ pub fn get(ws: &[u32], p: usize, k: usize) -> usize
     wide(field(ws, p, k))
 }
 
-// The number of 64 bits in fields k and k + 1.
+// Returns the number of 64 bits in fields k and k + 1.
 pub fn get_wide(ws: &[u32], p: usize, k: usize) -> usize
     requires { ⌜ (8 * p + 8 ≤ length (now ws)) × (k < 7) ⌝ }
     ensures { λ r. ⌜ r ≡ wide-at (now (ws .entry)) p k ⌝ }
@@ -71,7 +72,7 @@ pub fn no_labels(p: usize) -> Labels
     }
 }
 
-// The labels behind the first.
+// Returns the labels after the first.
 pub fn next_labels(ws: &[u32], l: Labels) -> Labels
     requires { ⌜ SomeLabels (now ws) l ⌝ }
     ensures { λ r. ⌜ NextLabels (now (ws .entry)) l r ⌝ }
@@ -121,7 +122,8 @@ fn put_named_label(
     put_text(out, r, room, 1)
 }
 
-// Appends the label of a parameter and `: `: the first of the labels, `_` where it is the marker, or else the parameter's own, if there is one.
+// Appends the label of a parameter and `: `. This is the first of the labels, `_` where it is the
+// marker, or otherwise the parameter's own label, if there is one.
 pub fn put_label(
     out: &mut [u8],
     at: usize,

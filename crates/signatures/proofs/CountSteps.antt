@@ -1,4 +1,4 @@
--- The counts behind `r`, at a place of a text. Assumes nothing.
+-- The counts after `r`, at a place of a text. Assumes nothing.
 use mathlib.Core.Path.{_≡_, refl, ap, subst, _∙_}
 use mathlib.Core.Bool.{Bool, true, false}
 use mathlib.Core.Option.{Option, some, none}

@@ -1,4 +1,4 @@
--- The counts behind `r`, one at a time. Assumes nothing.
+-- The counts after `r`, one at a time. Assumes nothing.
 use mathlib.Core.Path.{_≡_}
 use mathlib.Core.Option.{Option, some, none}
 use Prim.Native.Nat.{ℕ, _+_, _^_, _<_}

@@ -11,7 +11,7 @@ use letters::OperatorRead;
 use text::Cursor;
 use text::Number;
 
-// One turn of the counts behind `r`.
+// One turn of the counts after `r`.
 pub enum CountRead {
     Closed(Cursor),
     Count(usize, Cursor),

@@ -40,7 +40,7 @@ parts : {words : List Name} {punycoded : Bool} {p : Piece} {n : Name} → Follow
 parts nothing = refl
 parts (after {n = n} h) = record { rest = n; is = refl; follows = h }
 
--- what the answer says that a match took apart
+-- what the result says that a match took apart
 module _ (text : Text) (least : ℕ) (punycoded : Bool) {out : Piece} {r : Answer} where
   pub taken-part : {from to : ℕ} {next : Speller} → r ≡ Answer.Part from to next → PieceIs out text least punycoded r → Taken out text least punycoded from to next
   taken-part e h = subst (PieceIs out text least punycoded) e h
@@ -64,8 +64,8 @@ same-long [] f e = omega arith
 same-long (x ∷ a) [] e = absurd (differ (sym e))
 same-long (x ∷ a) (y ∷ f) e = let h : length a ≤ length f = same-long a f (and-eq-true-iff (eqb x y) (same a (take (length a) f)) .0 e .1) in omega arith
 
--- A LENGTH AND ITS BYTES, WHERE NO WORDS BY LETTER MAY COME
--- no text is left behind them
+-- A LENGTH AND ITS BYTES, WHERE NO WORD LETTERS MAY FOLLOW
+-- no text is left after them
 last-bytes : {a : Name} {more : Bool} {t : Text} (o : Out Text Name) → of-bytes false o ≡ piece a more t → (more ≡ false) × (t ≡ [])
 last-bytes (ok s u) e = (cc, cc)
 last-bytes (refused r) e = let z : _≡_ {A = ℕ} 0 1 = cc in absurd (omega arith)
@@ -84,13 +84,13 @@ module _ (text : Text) (w : Words) (p : ℕ) where
   abbrev Remains : Speller → Name → Type 0
   Remains s n = Follows (table text w) (s .punycoded) (piece-of (table text w) (s .more) (s .punycoded) (drop (s .at) text)) n
 
-  -- of the whole name this rest is left at the cursor, and Q holds of both
+  -- this rest of the whole name is left at the cursor, and Q holds for both
   pub record Yet (Q : Name → Name → Type 0) (s : Speller) (name : Name) : Type 0 where
     rest : Name
     remains : Remains s rest
     done : Q name rest
 
-  -- so it is, whatever name is spelled at p
+  -- this is so whatever name is spelled at p
   abbrev pub Left : (Name → Name → Type 0) → Speller → Type 0
   Left Q s = (name : Name) → Spells text w p name → Yet Q s name
 
@@ -127,7 +127,7 @@ module _ (text : Text) (w : Words) (p : ℕ) where
     left-stop {next = next} {R = R} t l f name h = left-next {R = λ (x y : Name). R x} t l f name h .done
 
   -- NAME_LENGTH
-  -- sum bytes of the name lie before the cursor
+  -- sum bytes of the name are before the cursor
   pub record Counting (s : Speller) (sum : ℕ) : Type 0 where
     pub inside : s .at ≤ length text
     pub small : sum ≤ 65535 * s .at
@@ -148,7 +148,7 @@ module _ (text : Text) (w : Words) (p : ℕ) where
     counting-end e = record { is = left-end s {R = λ name. sum ≡ length name} e (c .left) (λ name k. omega (arith, k)); small = omega (arith, c .small, c .inside) }
 
   -- PUT_NAME
-  -- whoever appends the rest of the name at the cursor to o at r has appended the whole to o₀ at at₀
+  -- appending the rest of the name at the cursor to o at r appends the whole to o₀ at at₀
   pub record Writing (room : ℕ) (o₀ : List ℕ) (at₀ : ℕ) (o : List ℕ) (s : Speller) (r : ℕ) : Type 0 where
     pub inside : s .at ≤ length text
     pub next : Room room o r
@@ -174,7 +174,7 @@ module _ (text : Text) (w : Words) (p : ℕ) where
     pub writing-end : here s ≡ end → Appended text w p room o₀ o at₀ r
     writing-end e = record { is = left-end s {R = λ name. Wrote room o₀ o at₀ name r} e (c .left) (λ name k. rest-end k); next = c .next; len = c .len }
 
-  -- a name that begins with no `0`: a length and its bytes
+  -- a name that does not begin with `0`: a length and its bytes
   module _ {room at : ℕ} {o : List ℕ} (h : Room room o at) (l : p < length text) (z : getD text p 0 ≡ 48 → ⊥) where
     abbrev plain : Speller
     plain = record { at = p; more = false; punycoded = false }
@@ -217,7 +217,7 @@ module _ (text : Text) (w : Words) (p : ℕ) where
         abbrev a : Name
         a = part text from to
 
-        -- the piece, and what stands at its place
+        -- the piece, and what is at its place
         abbrev pub Agree : Bool → Type 0
         Agree b = b ≡ same a (take (length a) (drop k fixed))
 

@@ -39,7 +39,7 @@ unless-state : (b : Bool) (t u : Text) (x : Done) → unless 9 b t ≡ ok x u �
 unless-state true t u x e = cc
 unless-state false t u x e = absurd (let z : _≡_ {A = ℕ} 0 1 = cc in omega arith)
 
--- a literal is a length and the bytes behind it
+-- a literal is a length and the bytes after it
 record Measured (punycoded : Bool) (t u : Text) (s : Name) : Type 0 where
   size : ℕ
   behind : Text
@@ -66,7 +66,7 @@ measured punycoded t u s e =
 
 -- THE NAME, PIECE BY PIECE
 module _ (vs : List Name) (punycoded : Bool) where
-  -- behind `before`, this piece and those that follow it complete the whole
+  -- after `before`, this piece and those that follow it complete the whole
   record Completes (p : Piece) (before whole : Name) : Type 0 where
     rest : Name
     is : whole ≡ before ++ rest
@@ -158,7 +158,7 @@ module _ (vs : List Name) (punycoded : Bool) where
       let a : identified (before ++ slice) known ≡ r = cc in
       subst (λ (x : Identified). Completes (piece slice false []) before (x .name)) a (step-back false [] (ends no-text))
 
-  -- letters may follow only where they were allowed before
+  -- letters may follow only if they were allowed before
   more-letters : (ws : List Name) (subs : Bool) (name : Name) (t : Text) {v : Text} {s : Spelled} → (if subs then word-letters ws name else ret (spelled name false)) t ≡ ok s v → s .more ≡ true → subs ≡ true
   more-letters ws true name t e h = refl
   more-letters ws false name t {s = s} e h =
@@ -190,7 +190,7 @@ module _ (vs : List Name) (punycoded : Bool) where
           (behind-literal f (s .more) (if punycoded then ws else note-words (d .value) ws) (s .name) (d .value) (d .state) u r
           (λ m. ih m (if punycoded then ws else note-words (d .value) ws) (s .name ++ d .value) (d .state)) (d .goes))
 
--- `0` was taken where it stands
+-- `0` was taken if it is there
 zero-there : (t : Text) (zero₁ : Bool) {u : Text} → next-if (is "0") t ≡ ok zero₁ u → zero₁ ≡ true → peek (is "0") t ≡ true
 unfolding next-if peek
 zero-there [] zero₁ e h = let z : false ≡ zero₁ = cc in z ∙ h
@@ -200,7 +200,7 @@ zero-there (c ∷ t) zero₁ e h = go (is "0" c) e
     go true k = refl
     go false k = let z : false ≡ zero₁ = cc in z ∙ h
 
--- an identifier behind its lead
+-- an identifier after its lead
 pub spelled-again : (vs ws : List Name) (t u v : Text) (r : Identified) (l : Lead) → identifier ws t ≡ ok r u → Looked t (r .words) vs → start t ≡ ok l v →
     Follows vs (l .punycoded) (piece-of vs (l .more) (l .punycoded) v) (r .name)
 unfolding identifier start

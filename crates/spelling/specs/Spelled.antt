@@ -1,4 +1,5 @@
--- A name that is spelled again from its place in the text (01, "Words"), and what the functions of this crate say of it. Assumes nothing.
+-- A name that is spelled again from its place in the text (01, "Words"), and what the functions of
+-- this crate say about it. Assumes nothing.
 use mathlib.Core.Path.{_≡_}
 use mathlib.Core.List.{List}
 use Prim.Native.Nat.{ℕ, _^_, _<_}
@@ -11,8 +12,8 @@ use Rattle.words.specs.Table.{table}
 use Rattle.words.specs.declared.Words.{Words}
 use Rattle.output.specs.Sink.{Room, Wrote}
 
--- The identifier at the place p of the text was read with the words that were known then, and is this name.
--- If it looked for words, the table w has those that it left, and maybe more
+-- The identifier at the place p of the text was read with the words that were known then, and is
+-- this name. If it used words, the table w has those that were known after it, and maybe more
 pub record Spells (text : Text) (w : Words) (p : ℕ) (name : Name) : Type 0 where
   pub words : List Name
   pub read : W.Identified

@@ -1,4 +1,4 @@
-// A name spelled again from its place in the text, with the table of words.
+// A name that is spelled again from its place in the text, using the table of words.
 ghost use mathlib.Core.Path.{_≡_};
 ghost use Prim.Native.Nat.{_+_, _≤_};
 ghost use lib.ListN.{length, take, drop};
@@ -13,7 +13,7 @@ use pieces::next_piece;
 use pieces::of_length;
 use symbols::starts_with;
 
-// Whether text[from..to] stands in `fixed` from k on.
+// Whether text[from..to] occurs in `fixed` at k.
 fn stands(fixed: &[u8], k: usize, text: &[u8], from: usize, to: usize) -> bool
     requires { ⌜ (k ≤ length (now fixed)) × ((from ≤ to) × (to ≤ length (now text))) ⌝ }
     ensures { λ r. ⌜ r ≡ same (part (now (text .entry)) from to) (take (length (part (now (text .entry)) from to)) (drop k (now (fixed .entry)))) ⌝ }
@@ -21,7 +21,7 @@ fn stands(fixed: &[u8], k: usize, text: &[u8], from: usize, to: usize) -> bool
     starts_with(&fixed[k..], &text[from..to])
 }
 
-// The length of the name at p.
+// Returns the length of the name at p.
 pub fn name_length(
     text: &[u8],
     p: usize,
@@ -80,7 +80,7 @@ fn put_pieces(
     }
 }
 
-// Appends the name at p. One that begins with no `0` is a length and its bytes.
+// Appends the name at p. A name that does not begin with `0` is a length and its bytes.
 pub fn put_name(
     out: &mut [u8],
     at: usize,

@@ -1,4 +1,4 @@
--- The steps behind `S`, at a place of a text. Assumes nothing.
+-- The steps after `S`, at a place of a text. Assumes nothing.
 use mathlib.Core.Path.{_≡_, ap}
 use mathlib.Core.Bool.{true, false, _&&_, and-false}
 use mathlib.Core.Option.{some, none}

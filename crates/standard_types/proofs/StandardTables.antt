@@ -1,4 +1,5 @@
--- The table of the letters behind `S` is the definition's: a computed test over the whole table. Assumes nothing.
+-- The table of the letters after `S` is the definition's: a computed test over the whole table.
+-- Assumes nothing.
 use mathlib.Core.Path.{_≡_, refl, ap, _∙_}
 use mathlib.Core.List.{List, [], _∷_}
 use mathlib.Core.Option.{some}

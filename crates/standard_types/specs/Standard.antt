@@ -1,4 +1,4 @@
--- Parts of the definition's steps behind `S`. Assumes nothing.
+-- Parts of the definition's steps after `S`. Assumes nothing.
 use mathlib.Core.Bool.{_&&_}
 use mathlib.Core.List.{[], _∷_}
 use Prim.Native.Nat.{ℕ}
@@ -18,7 +18,7 @@ standard-kind k = getD (Struct ∷ Enum ∷ []) k Protocol
 abbrev pub standard-type-letter : ℕ → ℕ → Lex Operator
 standard-type-letter repeat b = or-refuse 9 (pick b standard-types) >>= λ s. ret (standard repeat (standard-nominal (s .0) (s .1)))
 
--- the rest of `standard-letters`, behind the count
+-- the rest of `standard-letters`, after the count
 abbrev pub repeated : ℕ → Lex Operator
 repeated n = do
   unless 9 (ltb 0 n && leb n most-steps)

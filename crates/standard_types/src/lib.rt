@@ -175,7 +175,7 @@ fn standard_letter(c: Cursor, repeat: usize, b: u8) -> OperatorRead
     standard_type(c, repeat, b)
 }
 
-// Behind the count.
+// Checks the count and reads the letter after it.
 fn standard_repeat(text: &[u8], c: Cursor, repeat: usize) -> OperatorRead
     ensures { λ r. ⌜ Operated (repeated repeat (drop (c .at) (now (text .entry)))) (now (text .entry)) (c .at) r ⌝ }
 {

@@ -23,7 +23,7 @@ use Rattle.stores.specs.Stores.{Wrote, Failed}
 use Rattle.budget.specs.Beyond.{beyond-itself}
 
 -- COPIES
--- a charge that went leaves room for what was charged
+-- a successful charge leaves room for what was charged
 pub charge-room : (N n : ℕ) (b c : B.Budget) → B.charge N n b ≡ ok tt c → b .total + n ≤ N
 unfolding B.charge
 charge-room N n b c q = go (leb (b .total + n) N) refl q

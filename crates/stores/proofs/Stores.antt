@@ -40,7 +40,7 @@ stored w i e h =
     other : (k : ℕ) → (k ≡ 3 * i → ⊥) → (k ≡ 3 * i + 1 → ⊥) → (k ≡ 3 * i + 2 → ⊥) → getD (set (set (set w (3 * i) (e .kind)) (3 * i + 1) (e .size)) (3 * i + 2) (e .count)) k 0 ≡ getD w k 0
     other k a b d = getD-set-other (set (set w (3 * i) (e .kind)) (3 * i + 1) (e .size)) (3 * i + 2) k (e .count) 0 d ∙ (getD-set-other (set w (3 * i) (e .kind)) (3 * i + 1) k (e .size) 0 b ∙ getD-set-other w (3 * i) k (e .kind) 0 a)
 
--- WHAT IS AS IT WAS
+-- WHAT IS UNCHANGED
 module _ (w w₁ : List ℕ) where
   at-same : (i : ℕ) → ((k : ℕ) → 3 * i ≤ k → k < 3 * i + 3 → getD w₁ k 0 ≡ getD w k 0) → entry-at w₁ i ≡ entry-at w i
   at-same i h = entry-same (h (3 * i) (omega arith) (omega arith)) (h (3 * i + 1) (omega arith) (omega arith)) (h (3 * i + 2) (omega arith) (omega arith))
@@ -94,7 +94,7 @@ module _ {N : ℕ} {w w₁ : List ℕ} (st : State) {e : Entry} (h : Stored w w�
     outside = record { long = h .long; past = λ k p. h .above k (omega arith) };
   }
 
--- COPIES: i of them lie on what was there
+-- COPIES: i of them are on top of what was there
 pub record Copied (w : List ℕ) (st₀ : State) (e : Entry) (w₁ : List ℕ) (st : State) (i : ℕ) : Type 0 where
   pub stack : stack-of w₁ (st .depth) ≡ replicate i (entry-of e) ++ stack-of w (st₀ .depth)
   pub depth : st .depth ≡ st₀ .depth + i

@@ -1,4 +1,4 @@
--- What writes to a workspace say of the definition's machine.
+-- What writes to a workspace say about the definition's machine.
 use mathlib.Core.Path.{_≡_}
 use mathlib.Core.List.{List}
 use Prim.Native.Nat.{ℕ, _+_, _*_, _≤_, _<_}
@@ -22,7 +22,7 @@ pub record Stored (w w₁ : List ℕ) (i : ℕ) (e : Entry) : Type 0 where
   pub below : (k : ℕ) → k < 3 * i → getD w₁ k 0 ≡ getD w k 0
   pub above : (k : ℕ) → 3 * i + 3 ≤ k → getD w₁ k 0 ≡ getD w k 0
 
--- the step comes to the machine of u in the workspace w₁
+-- the step ends with the machine of u in the workspace w₁
 pub record Wrote (f : Check Done) (N : ℕ) (w w₁ : List ℕ) (st u : State) : Type 0 where
   pub is : f (machine-of w N st) ≡ ok tt (machine-of w₁ N u)
   pub outside : Beyond 8 N w w₁
@@ -35,7 +35,7 @@ abbrev pub Performing : Check Done → (N : ℕ) → (w w₁ : List ℕ) → Sta
 Performing f N w w₁ st (Step.Done u) = Wrote f N w w₁ st u
 Performing f N w w₁ st (Step.Refused r) = Failed f N w w₁ st r
 
--- one entry more is remembered, and the rest of the state is as it was
+-- one more entry is remembered, and the rest of the state is unchanged
 pub record Remembered (f : Check Done) (N : ℕ) (w w₁ : List ℕ) (st u : State) : Type 0 where
   pub wrote : Wrote f N w w₁ st u
   pub depth : u .depth ≡ st .depth

@@ -1,4 +1,5 @@
-// Entries written to the workspace of the shape check: on the stack, remembered, and copies.
+// Entries that are written to the workspace of the shape check: on the stack, remembered, and as
+// copies.
 ghost use Prim.Native.Nat.{_+_, _-_, _*_, _≤_, _<_};
 ghost use lib.ListN.{length};
 ghost use Rattle.entries.specs.Lies.{entry-of};
@@ -25,7 +26,7 @@ fn store(ws: &mut [u32], i: usize, e: Entry)
     ws[3 * i + 2] = e.count;
 }
 
-// One more on the stack.
+// Pushes an entry.
 pub fn push(ws: &mut [u32], ceiling: usize, st: State, e: Entry) -> State
     requires { ⌜ (8 * ceiling ≤ length (now ws)) × (st .depth < ceiling) ⌝ }
     ensures { λ r. ⌜ Wrote (M.push (entry-of e)) ceiling (now (ws .entry)) (now (ws .exit)) st r ⌝ }
@@ -37,7 +38,7 @@ pub fn push(ws: &mut [u32], ceiling: usize, st: State, e: Entry) -> State
     next
 }
 
-// One more remembered.
+// Remembers an entry.
 pub fn remember(ws: &mut [u32], ceiling: usize, st: State, e: Entry) -> State
     requires { ⌜ (8 * ceiling ≤ length (now ws)) × (st .seen < ceiling) × (st .depth ≤ ceiling) ⌝ }
     ensures { λ r. ⌜ Remembered (M.remember (entry-of e)) ceiling (now (ws .entry)) (now (ws .exit)) st r ⌝ }
@@ -49,7 +50,7 @@ pub fn remember(ws: &mut [u32], ceiling: usize, st: State, e: Entry) -> State
     next
 }
 
-// So many of an entry on the stack.
+// Pushes an entry that many times.
 fn push_copies(ws: &mut [u32], ceiling: usize, st: State, times: usize, e: Entry) -> State
     requires { ⌜ (8 * ceiling ≤ length (now ws)) × (st .depth + times ≤ ceiling) ⌝ }
     ensures { λ r. ⌜ Wrote (M.push-copies times (entry-of e)) ceiling (now (ws .entry)) (now (ws .exit)) st r ⌝ }
@@ -65,7 +66,7 @@ fn push_copies(ws: &mut [u32], ceiling: usize, st: State, times: usize, e: Entry
     next
 }
 
-// So many copies of an entry, each charged its size.
+// Pushes that many copies of an entry, each charged its size.
 pub fn copied(ws: &mut [u32], ceiling: usize, st: State, times: usize, e: Entry) -> Step
     requires { ⌜ (8 * ceiling ≤ length (now ws)) × (ceiling ≤ 65536) × (st .depth ≤ st .budget .total) × (1 ≤ e .size) ⌝ }
     ensures { λ r. ⌜ Performing (C.copied ceiling times (entry-of e)) ceiling (now (ws .entry)) (now (ws .exit)) st r ⌝ }

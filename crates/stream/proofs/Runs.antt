@@ -1,4 +1,4 @@
--- All that a run writes is the definition's answers of all that it read. Assumes nothing.
+-- All that a run writes is the definition's answers to all that it read. Assumes nothing.
 use mathlib.Core.Path.{_≡_, refl, sym, ap, _∙_}
 use mathlib.Core.Bool.{true, false}
 use mathlib.Core.List.{List, [], _++_, append-assoc}

@@ -1,4 +1,4 @@
--- A read, a turn and a write, one after the other. Assumes nothing.
+-- A read, a turn and a write, one after another. Assumes nothing.
 use mathlib.Core.Path.{_≡_, refl, sym, ap, subst, _∙_}
 use mathlib.Core.Bool.{Bool, true, false}
 use mathlib.Core.List.{List, [], _++_, append-assoc, append-nil}
@@ -32,7 +32,7 @@ part-drop l a k e h j =
 not-false : true ≡ false → ⊥
 not-false e = let z : _≡_ {A = ℕ} 0 1 = cc in omega arith
 
--- AFTER A READ: what the buffer holds then
+-- AFTER A READ: what the buffer then holds
 record Came (n : Next) (l l′ : List ℕ) (b h : State) : Type 0 where
   inside : h .inside ≡ b .inside
   joined : kept l′ h ≡ kept l b ++ fetched n l′ b (h .end)
@@ -100,7 +100,7 @@ came-owed : (line : Text → List ℕ) {n : Next} {l l′ : List ℕ} {b h : Sta
 came-owed line {n} {l} {l′} {b} {h} c u =
     ap (owed line (b .inside)) (sym (append-assoc (kept l b) (fetched n l′ b (h .end)) u)) ∙ ap (λ (x : Text). owed line (b .inside) (x ++ u)) (sym (c .joined)) ∙ ap (λ (i : Bool). owed line i (kept l′ h ++ u)) (sym (c .inside))
 
--- A READ THAT FAILED
+-- A FAILED READ
 failed-read : (b h : State) (x : Got) → h ≡ after-read b x → (h .next ≡ Next.Answer → ⊥) → h ≡ after-read b Got.Failed
 failed-read b h (Got.Bytes n) e k = absurd (k (ap (λ (s : State). s .next) e))
 failed-read b h Got.Ended e k = absurd (k (ap (λ (s : State). s .next) e))

@@ -59,7 +59,7 @@ module _ (line : Text → List ℕ) {t : Text} {o o′ : List ℕ} {p : Progress
       let w : p .written ≡ 0 = sym (front-long (a .appends)) ∙ ap length s in
       a .all (omega arith) i (omega arith) j
 
--- the rest, where it is answered
+-- the rest, if it is answered
 module _ (asked : Asked) {t : Text} {ended : Bool} {o o′ : List ℕ} {n : ℕ} (a : Appends o o′ 0 (line-of asked t) n) where
   pub turned-last : Resting t ended Rest.Last → Turned (line-of asked) t false ended o′ (record { read = length t; written = n; inside = false; next = Next.Done })
   turned-last (e, h) =
@@ -84,7 +84,7 @@ module _ (asked : Asked) {t : Text} {ended : Bool} {o o′ : List ℕ} {n : ℕ}
     goes = (e, omega arith);
   }
 
--- the rest, where it is not
+-- the rest, if it is not
 module _ (line : Text → List ℕ) {t : Text} {ended : Bool} (o : List ℕ) where
   pub turned-more : Resting t ended Rest.More → Turned line t false ended o (record { read = 0; written = 0; inside = false; next = Next.Read })
   turned-more (e, h) = record { within = omega arith; fits = omega arith; owes = λ u _. refl; goes = (e, omega arith) }

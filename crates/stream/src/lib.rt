@@ -1,7 +1,8 @@
 // Standard input to standard output. `step` reads, answers and writes once. Its contract says that
-// what is written, with what is owed of the bytes that are kept, is what was owed before of all
-// that was read (`Stepped` in buffers/specs/Buffers.antt); `run-answers` (proofs/Runs.antt) says so
-// of all steps together. What a read stores, and that a write writes, is assumed of the system.
+// what is written, together with what is owed for the bytes that are kept, is what was owed before
+// for all that was read (`Stepped` in crates/line_buffers/specs/Buffers). `run-answers`
+// (proofs/Runs.antt) says so for all steps together. What a read stores, and that a write writes, is
+// assumed of the system.
 ghost use mathlib.Core.Path.{_≡_};
 ghost use mathlib.Core.Bool.{false};
 ghost use Prim.Native.Nat.{_+_, _≤_, _<_, _^_};
@@ -37,9 +38,9 @@ fn output() -> [u8; 131072]
     [0; 131072]
 }
 
-// Answers the lines of a text that end in a newline, while there is room. Where the text has no
+// Answers the lines of a text that end in a newline, while there is room. If the text has no
 // newline, it is answered if it is the last line or too long; otherwise more is read first.
-// `inside`: the text begins inside a line that is answered already. `ended`: nothing follows the
+// `inside`: the text begins inside a line that is already answered. `ended`: nothing follows the
 // text.
 fn turn(
     asked: Asked,
@@ -98,7 +99,7 @@ fn turn(
     }
 }
 
-// Reads where the state asks for it, answers and writes.
+// Reads if the state requires it, answers and writes.
 fn step(asked: Asked, input: &mut [u8], before: State, ws: &mut [u32], out: &mut [u8]) -> State
     requires { ⌜ (length (now ws) ≡ 16384) × (length (now out) ≡ 131072) ⌝ }
     requires { ⌜ Holds (now input) before × (stops (before .next) ≡ false) × (length (now input) ≡ 65536) ⌝ }
@@ -125,8 +126,8 @@ fn step(asked: Asked, input: &mut [u8], before: State, ws: &mut [u32], out: &mut
     }
 }
 
-// Answers each line of standard input on standard output. At a read or a write that fails it stops
-// with a message on standard error.
+// Answers each line of standard input on standard output. If a read or a write fails, it stops with
+// a message on standard error.
 pub fn answer_input(asked: Asked) {
     let mut ws = workspace();
     let mut input = io::large_buffer();

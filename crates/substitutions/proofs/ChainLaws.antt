@@ -1,4 +1,4 @@
--- The letters behind `A`, item by item. Assumes nothing.
+-- The letters after `A`, item by item. Assumes nothing.
 use mathlib.Core.Path.{_≡_, refl, sym, ap, subst, _∙_}
 use mathlib.Core.Bool.{Bool, true, false, _&&_}
 use mathlib.Core.List.{List, [], _∷_, _++_, append-assoc, append-nil}
@@ -17,8 +17,8 @@ use Rattle.substitutions.specs.Chain.{Chain, ended, more, last, times-of
 use Rattle.substitutions.specs.declared.SubstitutionRead.{SubstitutionRead}
 use Rattle.substitutions.specs.declared.SubstitutionRead.the-variants as SubstitutionRead
 
--- A NUMBER'S REST
--- the rest is no longer than k, and begins with no digit
+-- THE REST AFTER A NUMBER
+-- the rest is no longer than k, and does not begin with a digit
 abbrev pub Rest : ℕ → Out Text ℕ → Type 0
 Rest k (ok n u) = (length u ≤ k) × (peek digit u ≡ false)
 Rest k (refused r) = Unit {0}
@@ -98,6 +98,10 @@ unfolding substitutions-from chain-from
 letters-from zero repeat done t = ap (λ x. ok (substitutions x (bad 9)) t) (sym (append-nil done))
 letters-from (suc f) repeat done [] = ap (λ x. ok (substitutions x (bad 9)) []) (sym (append-nil done))
 letters-from (suc f) repeat done (c ∷ t) = by-item f repeat done c t (letters-from f) (lower c) (upper c) (is "_" c) (natural (c ∷ t))
+
+-- any sufficient fuel gives the same letters
+pub letters-are : (f : ℕ) (done : List Substitution) (t : Text) → length t ≤ f → substitutions-from f none done t ≡ outcome-after done (chain t)
+letters-are f done t h = letters-from f none done t ∙ ap (outcome-after done) (chain-fuel f (length t) none t h (le-refl _))
 
 -- the chain is the definition's
 pub letters-chain : (t : Text) → substitutions-letters t ≡ outcome (chain t)
@@ -208,8 +212,8 @@ module _ (text : Text) (at : ℕ) (repeat : Option ℕ) where
     unfolding letter behind
     number-stops next e = subst (Rest (length behind)) (number-here ∙ e) (natural-rest letter behind) .1
 
--- ANSWERS
--- an answer to a chain is one to the same chain, from an earlier place
+-- RESULTS
+-- a result of a chain is a result of the same chain, from an earlier place
 pub copied-is : (text : Text) {ch ch′ : Chain} {at at′ : ℕ} → ch ≡ ch′ → at ≤ at′ → (r : SubstitutionRead) → Copied ch′ text at′ r → Copied ch text at r
 copied-is text e l (SubstitutionRead.Copies t i false c) h = record { is = e ∙ h .is; some = h .some; inside = h .inside; onward = omega arith }
 copied-is text e l (SubstitutionRead.Copies t i true c) h = record { index = h .index; same = h .same; is = e ∙ h .is; some = h .some; inside = h .inside; onward = omega arith }

@@ -1,4 +1,4 @@
--- The letters behind `A`, item by item (lines 880 to 900). Assumes nothing.
+-- The letters after `A`, item by item (lines 880 to 900). Assumes nothing.
 use mathlib.Core.Path.{_≡_}
 use mathlib.Core.Bool.{Bool, true, false}
 use mathlib.Core.List.{List, [], _∷_}
@@ -14,7 +14,7 @@ use Rattle.text.specs.declared.Cursor.{Cursor}
 use Rattle.substitutions.specs.declared.SubstitutionRead.{SubstitutionRead}
 use Rattle.substitutions.specs.declared.SubstitutionRead.the-variants as SubstitutionRead
 
--- the items, how the letters ended, and the text behind them
+-- the items, how the letters ended, and the text after them
 pub record Chain : Type 0 where
   pub items : List Substitution
   pub late : Late Done
@@ -30,14 +30,15 @@ more x ch = record { items = x ∷ ch .items; late = ch .late; rest = ch .rest }
 abbrev pub last : Substitution → Text → Chain
 last x u = more x (ended (good tt) u)
 
--- the copies that a repeat asks for, and the index of `_` behind it
+-- the copies that a repeat count asks for, and the index of `_` after it
 abbrev pub times-of : Option ℕ → ℕ
 times-of repeat = given repeat 1 (λ n. max n 1)
 
 abbrev pub past-of : Option ℕ → ℕ
 past-of repeat = given repeat 26 (λ n. n + 27)
 
--- one letter c, with t behind it, and how to go on: whether it is lower case, a capital, or `_`; else the number that begins there
+-- one letter c, followed by t, and how to continue: whether it is lower case, a capital, or `_`;
+-- otherwise the number that begins there
 unfoldable pub item : (Option ℕ → Text → Chain) → Option ℕ → ℕ → Text → Bool → Bool → Bool → Out Text ℕ → Chain
 item go repeat c t true u d o = more (substitution (times-of repeat) (c - 97)) (go none t)
 item go repeat c t false true d o = last (substitution (times-of repeat) (c - 65)) t
@@ -51,7 +52,7 @@ chain-from zero repeat t = ended (bad 9) t
 chain-from (suc f) repeat [] = ended (bad 9) []
 chain-from (suc f) repeat (c ∷ t) = item (chain-from f) repeat c t (lower c) (upper c) (is "_" c) (natural (c ∷ t))
 
--- behind a repeat, and behind `A` or a letter in lower case
+-- after a repeat count, and after `A` or a letter in lower case
 abbrev pub chain-after : Option ℕ → Text → Chain
 chain-after repeat t = chain-from (length t) repeat t
 
@@ -62,18 +63,18 @@ chain t = chain-after none t
 abbrev pub outcome : Chain → Out Text Operator
 outcome ch = ok (substitutions (ch .items) (ch .late)) (ch .rest)
 
--- two indices are the same, or lie past every node that can be remembered
+-- two indices are equal, or are past every node that can be remembered
 abbrev pub Same : ℕ → ℕ → Type 0
 Same i j = (i ≡ j) ⊎ ((2 ^ 32 ≤ i) × (2 ^ 32 ≤ j))
 
--- the chain ch from the place `at` on begins with t copies of i, and goes on at c
+-- the chain ch from the place `at` on begins with t copies of i, and continues at c
 pub record Begins (ch : Chain) (text : Text) (at t i : ℕ) (c : Cursor) : Type 0 where
   pub is : ch ≡ more (substitution t i) (chain (drop (c .at) text))
   pub some : 0 < t
   pub inside : c .at ≤ length text
   pub onward : at < c .at
 
--- it is t copies of i, and what follows the chain stands at c
+-- it is t copies of i, and what follows the chain is at c
 pub record Ends (ch : Chain) (text : Text) (at t i : ℕ) (c : Cursor) : Type 0 where
   pub index : ℕ
   pub same : Same i index

@@ -14,13 +14,15 @@ use letters::wide;
 use text::Cursor;
 use text::Number;
 
-// The next item behind `A`: so many copies of the remembered node of an index, whether it is the last, and the next cursor.
+// The next item after `A`: the number of copies and the index of the remembered node, whether the
+// item is the last, and the next cursor.
 pub enum SubstitutionRead {
     Copies(usize, usize, bool, Cursor),
     Broken(Refusal),
 }
 
-// The letter of an item, behind its repeat: so many copies; `past` is the index of `_`.
+// Reads the letter of an item, after its repeat count. `times` is the number of copies, `past` the
+// index of `_`.
 fn item_letter(text: &[u8], c: Cursor, times: usize, past: usize) -> SubstitutionRead
     requires { ⌜ Text.peek digit (drop (c .at) (now text)) ≡ false ⌝ }
     ensures { λ r. ⌜ ((repeat : Option ℕ) → times ≡ times-of repeat → Same past (past-of repeat) → 0 < times → Copied (chain-after repeat (drop (c .at) (now (text .entry)))) (now (text .entry)) (c .at) r) ⌝ }
@@ -42,7 +44,8 @@ fn item_letter(text: &[u8], c: Cursor, times: usize, past: usize) -> Substitutio
     SubstitutionRead::Broken(Refusal::Spelling)
 }
 
-// Behind the repeat n. An index past 2^64 is past every node: the largest stands for it.
+// Reads the item after the repeat count n. An index past 2^64 is past every node, so the largest
+// index represents it.
 fn repeated_item(text: &[u8], c: Cursor, n: usize) -> SubstitutionRead
     requires { ⌜ Text.peek digit (drop (c .at) (now text)) ≡ false ⌝ }
     ensures { λ r. ⌜ Copied (chain-after (some n) (drop (c .at) (now (text .entry)))) (now (text .entry)) (c .at) r ⌝ }
@@ -56,7 +59,7 @@ fn repeated_item(text: &[u8], c: Cursor, n: usize) -> SubstitutionRead
     item_letter(text, c, n, 18446744073709551615)
 }
 
-// The next item behind `A`, from the cursor on.
+// Reads the next item after `A`, at the cursor.
 pub fn substitution(text: &[u8], c: Cursor) -> SubstitutionRead
     ensures { λ r. ⌜ Copied (chain (drop (c .at) (now (text .entry)))) (now (text .entry)) (c .at) r ⌝ }
 {

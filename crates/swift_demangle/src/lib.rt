@@ -1,5 +1,5 @@
-// The calls of the reading that users have: a symbol or a type, whole or stopped after k operators. They have no `requires`:
-// every text, ceiling, k and slice is answered as the definition answers it.
+// The calls of the reading for users: a symbol or a type, whole or stopped after k operators. They
+// have no `requires`: every text, ceiling, k and slice is answered as the definition answers it.
 ghost use lib.ListN.{length};
 ghost use Rattle.definition.specs.Reading as Reading;
 ghost use Rattle.definition.specs.Enums as Enums;
@@ -10,7 +10,7 @@ use admission::Admitted;
 use definition::Answer;
 use runs::Final;
 
-// A symbol or a type, by what it is: what is checked before a run, then the run
+// A symbol or a type, given by what it is: the checks before a run, then the run
 
 fn read(text: &[u8], what: Final, ceiling: usize, workspace: &mut [u32], out: &mut [u8]) -> Answer
     ensures { λ r. ⌜ Answers (read-whole what (now (text .entry)) ceiling (length (now (workspace .entry))) (length (now (out .entry)))) (now (out .entry)) (now (out .exit)) r × Scratch 64 ceiling (Enums.values r .number) (now (workspace .entry)) (now (workspace .exit)) ⌝ }
@@ -69,7 +69,8 @@ pub fn demangle_type(text: &[u8], ceiling: usize, workspace: &mut [u32], out: &m
     read(text, Final::Type, ceiling, workspace, out)
 }
 
-// Reads a symbol's first k operators, and writes the stack's entries to the front of out, three numbers each, the bottom first.
+// Reads the first k operators of a symbol, and writes the entries of the stack to the front of out,
+// three numbers each, the bottom first.
 pub fn demangle_stopped(
     text: &[u8],
     ceiling: usize,
@@ -82,7 +83,7 @@ pub fn demangle_stopped(
     read_stopped(text, Final::Symbol, ceiling, k, workspace, out)
 }
 
-// The same of a type.
+// The same for a type.
 pub fn demangle_type_stopped(
     text: &[u8],
     ceiling: usize,

@@ -1,4 +1,4 @@
--- The check's calls, of a symbol or of a type. Assumes nothing.
+-- The calls of the check, for a symbol or for a type. Assumes nothing.
 use Prim.Native.Nat.{ℕ}
 use Rattle.definition.specs.Text.{Text}
 use Rattle.definition.specs.Calls as Calls

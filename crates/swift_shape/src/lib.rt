@@ -1,5 +1,6 @@
-// The calls of the shape check that users have: a symbol or a type, whole or stopped after k operators. They have no `requires`:
-// every text, ceiling, k and slice is answered as the definition answers it.
+// The calls of the shape check for users: a symbol or a type, whole or stopped after k operators.
+// They have no `requires`: every text, ceiling, k and slice is answered as the definition answers
+// it.
 ghost use mathlib.Core.Path.{_≡_};
 ghost use lib.ListN.{length};
 ghost use Rattle.definition.specs.Check as Check;
@@ -11,7 +12,7 @@ use admission::Admitted;
 use definition::Answer;
 use runs::Final;
 
-// A symbol or a type, by what it is: what is checked before a run, then the run
+// A symbol or a type, given by what it is: the checks before a run, then the run
 
 fn check(text: &[u8], what: Final, ceiling: usize, workspace: &mut [u32]) -> Answer
     ensures { λ r. ⌜ (Enums.values r ≡ check-whole what (now (text .entry)) ceiling (length (now (workspace .entry))) .values) × Scratch 8 ceiling (Enums.values r .number) (now (workspace .entry)) (now (workspace .exit)) ⌝ }
@@ -69,7 +70,7 @@ pub fn shape_type(text: &[u8], ceiling: usize, workspace: &mut [u32]) -> Answer
     check(text, Final::Type, ceiling, workspace)
 }
 
-// Checks the shape of a symbol's first k operators, and writes the stack's entries.
+// Checks the shape of the first k operators of a symbol, and writes the entries of the stack.
 pub fn shape_stopped(
     text: &[u8],
     ceiling: usize,
@@ -82,7 +83,7 @@ pub fn shape_stopped(
     check_stopped(text, Final::Symbol, ceiling, k, workspace, out)
 }
 
-// The same of a type.
+// The same for a type.
 pub fn shape_type_stopped(
     text: &[u8],
     ceiling: usize,

@@ -19,7 +19,7 @@ use Rattle.symbols.specs.declared.Symbol.{Symbol}
 use Rattle.symbols.specs.declared.Symbol.the-variants as Symbol
 use Rattle.text.proofs.Steps.{front, ended}
 
--- the bytes p stand at the front of t
+-- t begins with the bytes p
 abbrev pub begins-with : Text → Text → Bool
 begins-with p t = same p (take (length p) t)
 
@@ -70,7 +70,7 @@ module _ (text : Text) (at : ℕ) where
   unfolding before-dot
   dot-none h = rw (ended text at h)
 
--- bytes that are no dots are passed over
+-- bytes that are not dots are skipped
 pass : {text : Text} {from at : ℕ} (n to : ℕ) → at + n ≡ to → Seeking text from at → to ≤ length text → Each no-dot text at to → Seeking text from to
 pass {text} {from} {at} zero to e s l h = let k : at ≡ to = omega arith in subst (Seeking text from) k s
 pass {text} {from} {at} (suc n) to e s l h =
@@ -89,7 +89,7 @@ unfolding before-dot
 before-step b t true e h = let q : before-dot (b ∷ t) ≡ [] = rw (before-dot, e) in rw q
 before-step b t false e h = let q : before-dot (b ∷ t) ≡ b ∷ before-dot t = rw (before-dot, e) in rw q (ap (λ (l : Text). b ∷ l) h)
 
--- what stands before the first dot is the text up to it
+-- the text before the first dot is the text up to it
 pub before-front : (t : Text) → before-dot t ≡ take (length (before-dot t)) t
 unfolding before-dot
 before-front [] = refl

@@ -1,4 +1,4 @@
--- What an answer about a symbol's prefix and parts says of the definition. Assumes nothing.
+-- What a result about the prefix and parts of a symbol says about the definition. Assumes nothing.
 use mathlib.Core.Path.{_≡_}
 use mathlib.Core.Bool.{Bool, not}
 use mathlib.Core.Option.{Option, some, none}
@@ -20,7 +20,7 @@ PrefixIs out Prefixed.Not = out ≡ none
 abbrev pub no-dot : ℕ → Bool
 no-dot b = not (is "." b)
 
--- what stands before the first dot at from or later ends at end
+-- the text before the first dot at `from` or later ends at end
 pub record Ends (text : Text) (from end : ℕ) : Type 0 where
   pub is : from + length (before-dot (drop from text)) ≡ end
   pub inside : end ≤ length text

@@ -37,7 +37,7 @@ pub fn starts_with(text: &[u8], front: &[u8]) -> bool
     true
 }
 
-// The first of the four prefixes that the text begins with.
+// Returns the first of the four prefixes that the text begins with.
 pub fn prefix(text: &[u8]) -> Prefixed
     ensures { λ r. ⌜ PrefixIs (Text.prefix-of Text.prefixes (now (text .entry))) r ⌝ }
 {
@@ -56,7 +56,8 @@ pub fn prefix(text: &[u8]) -> Prefixed
     Prefixed::Not
 }
 
-// Whether none of the eight bytes from a place on is a dot. No test waits for another, so the compiler makes one of all.
+// Whether none of the eight bytes from a place on is a dot. No test depends on another, so the
+// compiler combines them into one.
 fn eight_others(text: &[u8], at: usize) -> bool
     requires { ⌜ at + 8 ≤ length (now text) ⌝ }
     ensures { λ r. ⌜ (r ≡ true → Each no-dot (now (text .entry)) at (at + 8)) ⌝ }
@@ -72,8 +73,9 @@ fn eight_others(text: &[u8], at: usize) -> bool
     first & last
 }
 
-// The place behind bytes that are no dots, eight at a time, from a place on. Fewer than eight are left behind the loop: the last eight
-// of the text have them all, and some that were tested before.
+// Returns the place after bytes that are not dots, eight at a time, from a place on. After the loop
+// fewer than eight bytes are left. The last eight bytes of the text include them all, and some that
+// were already tested.
 fn past_others(text: &[u8], from: usize) -> usize
     requires { ⌜ from ≤ length (now text) ⌝ }
     ensures { λ r. ⌜ (from ≤ r) × (r ≤ length (now (text .entry))) × Each no-dot (now (text .entry)) from r ⌝ }
@@ -93,7 +95,7 @@ fn past_others(text: &[u8], from: usize) -> usize
     next
 }
 
-// The place of the first dot, or the end.
+// Returns the place of the first dot, or the end.
 fn dot(text: &[u8], from: usize) -> usize
     requires { ⌜ from ≤ length (now text) ⌝ }
     ensures { λ r. ⌜ Ends (now (text .entry)) from r ⌝ }
@@ -108,7 +110,7 @@ fn dot(text: &[u8], from: usize) -> usize
     at
 }
 
-// The parts of a symbol whose prefix ends at start.
+// Returns the parts of a symbol whose prefix ends at start.
 fn split_at(text: &[u8], start: usize) -> Symbol
     ensures { λ r. ⌜ SplitIs (Text.split-at start (drop start (now (text .entry)))) (now (text .entry)) r ⌝ }
 {
@@ -122,7 +124,8 @@ fn split_at(text: &[u8], start: usize) -> Symbol
     Symbol::Not
 }
 
-// A symbol's parts: a prefix, at least one byte after it, and a body that ends before the first dot.
+// Returns the parts of a symbol: a prefix, at least one byte after it, and a body that ends before
+// the first dot.
 pub fn split(text: &[u8]) -> Symbol
     ensures { λ r. ⌜ SplitIs (Text.split (now (text .entry))) (now (text .entry)) r ⌝ }
 {

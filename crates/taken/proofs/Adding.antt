@@ -1,4 +1,4 @@
--- Labels, wraps, and what goes into what was taken. Assumes nothing.
+-- Labels, wraps, and what is added to what was taken. Assumes nothing.
 use mathlib.Core.Path.{_≡_, refl, sym, ap, _∙_}
 use mathlib.Core.Bool.{Bool, true, false}
 use mathlib.Core.List.{List}
@@ -30,7 +30,7 @@ use Rattle.entries.specs.declared.Taken.{Taken}
 use Rattle.entries.specs.declared.Taking.{Taking}
 use Rattle.entries.specs.declared.Taking.the-variants as Taking
 
--- what was taken stays
+-- what was taken is unchanged
 module _ {A : Type 0} {f : Check A} {w : List ℕ} {st : State} where
   pub same-taken : {u : State} {l m : ℕ} {x : A} (a : Taken) (k : A → Check C.Taken) → Went f w st l m x u → ((N : ℕ) → k x (machine-of w N u) ≡ ok (taken-of a) (machine-of w N u)) → Goes (f >>= k) false w st a a u
   same-taken a k h q = record {

@@ -1,4 +1,5 @@
--- One take of a row: the part of the definition's interpreter that goes before the next take.
+-- One take of a row: the part of the definition's interpreter that is performed before the next
+-- take.
 use mathlib.Core.Path.{_≡_}
 use mathlib.Core.Bool.{Bool, true, false}
 use mathlib.Core.List.{List}
@@ -23,7 +24,7 @@ use Rattle.entries.specs.declared.Taking.the-variants as Taking
 abbrev pub one-label : Check Done
 one-label = M.pop C.kind-of >>= C.label-in
 
--- what the take makes of what was taken before
+-- the result of the take, given what was taken before
 unfoldable pub take-step : C.Take → C.Taken → Check C.Taken
 take-step C.wraps a = wrap >> ret a
 take-step (C.a-node want) a = C.pop-if want >>= λ e. ret (C.add e a)
@@ -45,7 +46,7 @@ take-step C.requirements a = rounds >>= λ f. C.requirements-from f a
 take-step (C.refuses r) a = refuse r
 take-step C.printed-ahead a = ret (C.taken 0 (a .count) (a .signed))
 
--- a list, whose entries are counted on from what was counted before
+-- a list, whose entries are added to what was counted before
 abbrev pub grows : C.Take → Bool
 grows C.wraps = false
 grows (C.a-node want) = false
@@ -67,7 +68,7 @@ grows C.requirements = true
 grows (C.refuses r) = false
 grows C.printed-ahead = false
 
--- the count of an entry takes the place of what was counted before
+-- the count of an entry replaces what was counted before
 abbrev pub resets : C.Take → Bool
 resets C.wraps = false
 resets (C.a-node want) = false
@@ -89,14 +90,15 @@ resets C.requirements = false
 resets (C.refuses r) = false
 resets C.printed-ahead = false
 
--- there is room to add up the stack's entries to what was taken, and to count them, where the take is a list
+-- there is room to add the entries of the stack to what was taken, and to count them, if the take
+-- is a list
 pub record Ready (list : Bool) (w : List ℕ) (st : State) (a : Taken) : Type 0 where
   pub held : Held w st
   pub light : a .size + load w st ≤ 2 ^ 20
   pub few : list ≡ true → a .count + st .depth < 2 ^ 32
 
--- The step comes to b, and to the machine of u. What was added to a is gone from the stack, but for one node, which a signature makes;
--- nothing is charged or remembered
+-- The step gives b, and ends with the machine of u. What was added to a was removed from the stack,
+-- except for one node, which a signature makes. Nothing is charged or remembered
 pub record Goes (f : Check C.Taken) (reset : Bool) (w : List ℕ) (st : State) (a b : Taken) (u : State) : Type 0 where
   pub is : (N : ℕ) → f (machine-of w N st) ≡ ok (taken-of b) (machine-of w N u)
   pub depth : u .depth ≤ st .depth
@@ -110,7 +112,7 @@ abbrev pub Takes : C.Take → List ℕ → State → Taken → Taking → Type 0
 Takes t w st a (Taking.Went b u) = Goes (take-step t (taken-of a)) (resets t) w st a b u
 Takes t w st a (Taking.Refused r) = Refuses (take-step t (taken-of a)) w st r
 
--- what was taken stays
+-- what was taken is unchanged
 abbrev pub kept-of : Moved → Taken → Taking
 kept-of (Moved.To u) a = Taking.Went a u
 kept-of (Moved.Refused r) a = Taking.Refused r

@@ -1,4 +1,5 @@
-// What the takes of the shape check's rows are made of: labels, wraps, and what goes into what was taken.
+// The parts of the takes of the shape check's rows: labels, wraps, and what is added to what was
+// taken.
 ghost use mathlib.Core.Path.{_≡_};
 ghost use mathlib.Core.Bool.{true};
 ghost use mathlib.Core.List.{List};
@@ -19,7 +20,7 @@ use entries::Taking;
 use entries::pop;
 use entries::side;
 
-// One label, or the marker where there is none.
+// Takes one label, or the marker for none.
 fn label(ws: &[u32], st: State) -> Moved
     requires { ⌜ Held (now ws) st ⌝ }
     ensures { λ r. ⌜ Moving one-label (now (ws .entry)) st r ⌝ }
@@ -38,7 +39,7 @@ fn label(ws: &[u32], st: State) -> Moved
     }
 }
 
-// So many labels.
+// Takes that many labels.
 pub fn labels(ws: &[u32], st: State, count: usize) -> Moved
     requires { ⌜ Held (now ws) st ⌝ }
     ensures { λ r. ⌜ Moving (C.labels-from count) (now (ws .entry)) st r ⌝ }
@@ -59,7 +60,7 @@ pub fn labels(ws: &[u32], st: State, count: usize) -> Moved
     Moved::To(left)
 }
 
-// One more entry.
+// Adds one entry.
 pub fn add(a: Taken, e: Entry) -> Taken
     requires { ⌜ a .size ≤ 2 ^ 20 ⌝ }
     ensures { λ r. ⌜ taken-of r ≡ C.add (entry-of e) (taken-of a) ⌝ }
@@ -71,7 +72,8 @@ pub fn add(a: Taken, e: Entry) -> Taken
     }
 }
 
-// The parameters' side: those of a tuple are counted, else it is one.
+// Adds the parameters of a function type. The elements of a tuple are counted, anything else counts
+// as one.
 pub fn add_params(a: Taken, e: Entry) -> Taken
     requires { ⌜ a .size ≤ 2 ^ 20 ⌝ }
     ensures { λ r. ⌜ Sets (C.add-params (entry-of e) (taken-of a)) r ⌝ }
@@ -91,7 +93,7 @@ pub fn add_params(a: Taken, e: Entry) -> Taken
     }
 }
 
-// A type: the parameters of a function type are counted.
+// Adds a type. The parameters of a function type are counted.
 pub fn add_labelled(a: Taken, e: Entry) -> Taken
     requires { ⌜ a .size ≤ 2 ^ 20 ⌝ }
     ensures { λ r. ⌜ Sets (C.add-labelled (entry-of e) (taken-of a)) r ⌝ }
@@ -111,7 +113,7 @@ pub fn add_labelled(a: Taken, e: Entry) -> Taken
     }
 }
 
-// A signature, under which the type is one node more.
+// Adds a signature, under which the type has one more node.
 pub fn sign(a: Taken, e: Entry) -> Taken
     requires { ⌜ a .size ≤ 2 ^ 20 ⌝ }
     ensures { λ r. ⌜ taken-of r ≡ C.taken (1 + (e .size + a .size)) (a .count) true ⌝ }
@@ -132,7 +134,7 @@ pub fn kept(m: Moved, a: Taken) -> Taking
     }
 }
 
-// A wrap is counted.
+// Counts a wrap.
 pub fn wrapped(st: State) -> Moved
     ensures { λ r. ⌜ ((w : List ℕ) → Moving M.wrap w st r) ⌝ }
 {

@@ -1,4 +1,4 @@
--- One take after the other. Assumes nothing.
+-- One take after another. Assumes nothing.
 use mathlib.Core.Path.{_≡_, refl, sym, ap, subst, _∙_}
 use mathlib.Core.Bool.{Bool, true, false}
 use mathlib.Core.List.{List, _∷_}
@@ -71,7 +71,7 @@ ready-less h = record { held = h .held; light = h .light; few = λ e. absurd (le
 pub ready-adds : {w : List ℕ} {st u : State} {a : Taken} → Ready true w st a → u .depth ≤ st .depth → Adds w u a
 ready-adds {w} {st} {u} h l = record { held = held-less u (h .held) l; light = omega (arith, h .light, weigh-less w (u .depth) (st .depth) l); few = omega (arith, h .few refl) }
 
--- an entry goes into what was taken
+-- an entry is added to what was taken
 module _ {f : Check K.Entry} {w : List ℕ} {st u : State} {e : Entry} {l : ℕ} (a : Taken) (h : Went f w st l (e .size) (entry-of e) u) where
   pub added : {b : Taken} → taken-of b ≡ C.add (entry-of e) (taken-of a) → Goes (f >>= λ e. ret (C.add e (taken-of a))) false w st a b u
   added {b} q =
@@ -104,7 +104,7 @@ module _ {f : Check K.Entry} {w : List ℕ} {st u : State} {e : Entry} {l : ℕ}
 pub goes-is : {f g : Check C.Taken} {b : Bool} {w : List ℕ} {st u : State} {a d : Taken} → ((N : ℕ) → f (machine-of w N st) ≡ g (machine-of w N st)) → Goes g b w st a d u → Goes f b w st a d u
 goes-is q h = record { is = λ N. q N ∙ h .is N; depth = h .depth; size = h .size; small = h .small; count = h .count; seen = h .seen; total = h .total }
 
--- a move, and then what was taken stays
+-- a move, after which what was taken is unchanged
 module _ (w : List ℕ) (st : State) (a : Taken) where
   pub name-kept : (m : Moved) → Moving C.pop-name w st m → {r : Taking} → r ≡ kept-of m a → Takes C.a-name w st a r
   unfolding take-step

@@ -1,4 +1,4 @@
-// What a row of the shape check takes off the stack.
+// What a row of the shape check takes from the stack.
 ghost use mathlib.Core.Bool.{true, false};
 ghost use mathlib.Core.List.{List};
 ghost use Prim.Native.Nat.{ℕ};
@@ -198,7 +198,7 @@ fn take_refuses(st: State, a: Taken) -> Taking
     Taking::Refused(Refusal::Spelling)
 }
 
-// One take of a row.
+// Performs one take of a row.
 pub fn take_one(ws: &[u32], st: State, a: Taken, t: Take) -> Taking
     requires { ⌜ Ready (grows (take-of t)) (now ws) st a ⌝ }
     ensures { λ r. ⌜ Takes (take-of t) (now (ws .entry)) st a r ⌝ }

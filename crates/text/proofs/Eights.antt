@@ -13,7 +13,7 @@ module _ (p : ℕ → Bool) (text : Text) where
   pub each-none : {at : ℕ} → Each p text at at
   each-none = record { at = λ i l r. absurd (omega arith) }
 
-  -- one part behind another
+  -- one part after another
   pub each-both : {from at to : ℕ} → Each p text from at → Each p text at to → Each p text from to
   each-both {from} {at} {to} g h = record { at = λ i l r. go i l r (ltb i at) refl }
     where
@@ -25,7 +25,7 @@ module _ (p : ℕ → Bool) (text : Text) where
   pub each-part : {from to a b : ℕ} → Each p text from to → from ≤ a → b ≤ to → Each p text a b
   each-part g l r = record { at = λ i k m. g .at i (omega arith) (omega arith) }
 
-  -- one part behind another that it meets or overlaps
+  -- one part after another that it meets or overlaps
   pub each-over : {from at a b to : ℕ} → Each p text from at → Each p text a b → a ≤ at → to ≤ b → Each p text from to
   each-over g h l r = each-both g (each-part h l r)
 

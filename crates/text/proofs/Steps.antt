@@ -127,7 +127,7 @@ pub record Reading (text : Text) (first from value at : ℕ) : Type 0 where
   pub same : digits first (drop from text) ≡ digits value (drop at text)
 
 -- AFTER A CALL
--- an answer to a step is one to a step with the same outcome, from an earlier place
+-- a result of a step is a result of any step with the same outcome, from an earlier place
 pub counted-is : (text : Text) {o o′ : Out Text ℕ} {least least′ : ℕ} → o ≡ o′ → least ≤ least′ → (r : Number) → Counted o′ text least′ r → Counted o text least r
 counted-is text e l (Number.Read n c) h = record { is = e ∙ h .is; small = h .small; inside = h .inside; onward = omega arith }
 counted-is text e l (Number.Refused f) h = e ∙ h
@@ -139,7 +139,7 @@ pub parameter-is : (text : Text) {o o′ : Out Text Param} {from from′ : ℕ} 
 parameter-is text e l (ParamRead.Read p c) h = record { is = e ∙ h .is; shallow = h .shallow; small = h .small; inside = h .inside; onward = omega arith }
 parameter-is text e l (ParamRead.Refused f) h = e ∙ h
 
--- what the answer says that a match took apart
+-- what the result says that a match took apart
 pub number-read : (text : Text) (from : ℕ) {o : Out Text ℕ} {r : Number} {n : ℕ} {c : Cursor} → r ≡ Number.Read n c → Numbered o text from r → Stands o n (2 ^ 64) text (from + 1) c
 number-read text from {o} e h = subst (Numbered o text from) e h
 

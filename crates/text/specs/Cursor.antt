@@ -1,5 +1,6 @@
--- What an answer over a cursor says of a step of the definition (01, "Text and cursor"). Assumes nothing.
--- Every relation has the arguments: the step's outcome on the text from the cursor on, the whole text, the cursor's place, the answer.
+-- What a result over a cursor says about a step of the definition (01, "Text and cursor"). Assumes
+-- nothing. Every relation has the arguments: the outcome of the step on the text from the cursor
+-- on, the whole text, the place of the cursor, the result.
 use mathlib.Core.Path.{_≡_}
 use mathlib.Core.Bool.{Bool, true, false}
 use Prim.Native.Nat.{ℕ, _+_, _^_, _≤_, _<_}
@@ -18,14 +19,15 @@ use Rattle.text.specs.declared.Number.the-variants as Number
 use Rattle.text.specs.declared.ParamRead.{ParamRead}
 use Rattle.text.specs.declared.ParamRead.the-variants as ParamRead
 
--- the outcome is the number n, and c stands in the text where the outcome's rest begins, at `least` or later
+-- the outcome is the number n, and c is the place in the text where the outcome's rest begins,
+-- `least` or later
 pub record Stands (out : Out Text ℕ) (n limit : ℕ) (text : Text) (least : ℕ) (c : Cursor) : Type 0 where
   pub is : out ≡ ok n (drop (c .at) text)
   pub small : n < limit
   pub inside : c .at ≤ length text
   pub onward : least ≤ c .at
 
--- the same, of a parameter
+-- the same for a parameter
 pub record StandsParam (out : Out Text Text.Param) (p : Param) (text : Text) (least : ℕ) (c : Cursor) : Type 0 where
   pub is : out ≡ ok (param p) (drop (c .at) text)
   pub shallow : p .depth < 2 ^ 64
@@ -46,7 +48,7 @@ abbrev pub Counted : Out Text ℕ → Text → ℕ → Number → Type 0
 Counted out text least (Number.Read n c) = Stands out n (2 ^ 64) text least c
 Counted out text least (Number.Refused f) = out ≡ refused (number f)
 
--- the answers of what takes one byte or more
+-- the results of steps that take one byte or more
 abbrev pub Byted : Out Text ℕ → Text → ℕ → Byte → Type 0
 Byted out text from (Byte.Read b c) = Stands out b 256 text (from + 1) c
 Byted out text from (Byte.Refused f) = out ≡ refused (number f)

@@ -1,4 +1,4 @@
--- A test that holds of each byte from one place to another. Assumes nothing.
+-- A test that holds for each byte from one place to another. Assumes nothing.
 use mathlib.Core.Path.{_≡_}
 use mathlib.Core.Bool.{Bool, true}
 use Prim.Native.Nat.{ℕ, _≤_, _<_}

@@ -47,7 +47,7 @@ pub fn is_digit(b: u8) -> bool
     b <= 57
 }
 
-// Whether a digit stands at the cursor.
+// Whether the byte at the cursor is a digit.
 pub fn peek_is_digit(text: &[u8], c: Cursor) -> bool
     ensures { λ r. ⌜ r ≡ Text.peek digit (drop (c .at) (now (text .entry))) ⌝ }
 {
@@ -58,7 +58,7 @@ pub fn peek_is_digit(text: &[u8], c: Cursor) -> bool
     false
 }
 
-// The byte at the cursor.
+// Reads the byte at the cursor.
 pub fn next(text: &[u8], c: Cursor) -> Byte
     ensures { λ r. ⌜ Byted (Text.next (drop (c .at) (now (text .entry)))) (now (text .entry)) (c .at) r ⌝ }
 {
@@ -91,8 +91,9 @@ pub fn next_if(text: &[u8], c: Cursor, b: u8) -> Taken
 
 // Numbers
 
-// The digits from the cursor on, after digits of that value. Ten times a value above 1844674407370955161 is above 2^64 - 1; ten times any
-// other is not, and leaves room for the digit or does not.
+// Reads the digits from the cursor on, after digits with the value `first`. Ten times a value above
+// 1844674407370955161 is above 2^64 - 1. Ten times any other value is not, and may or may not leave
+// room for the digit.
 fn digits(text: &[u8], c: Cursor, first: usize) -> Number
     requires { ⌜ c .at ≤ length (now text) ⌝ }
     ensures { λ r. ⌜ Counted (Text.digits first (drop (c .at) (now (text .entry)))) (now (text .entry)) (c .at) r ⌝ }
@@ -118,7 +119,7 @@ fn digits(text: &[u8], c: Cursor, first: usize) -> Number
     Number::Read(value, Cursor { at })
 }
 
-// One digit or more, below 2^64.
+// Reads one digit or more, with a value below 2^64.
 pub fn natural(text: &[u8], c: Cursor) -> Number
     ensures { λ r. ⌜ Numbered (Text.natural (drop (c .at) (now (text .entry)))) (now (text .entry)) (c .at) r ⌝ }
 {
@@ -132,7 +133,7 @@ pub fn natural(text: &[u8], c: Cursor) -> Number
     Number::Refused(Refusal::Spelling)
 }
 
-// n + 1, if that is below 2^64.
+// Returns n + 1, if that is below 2^64.
 fn plus_one(n: usize, c: Cursor) -> Number
     ensures { λ r. ⌜ ((text : Text.Text) (from : ℕ) → c .at ≤ length text → from < c .at → Numbered (Text.checked (n + 1) (drop (c .at) text)) text from r) ⌝ }
 {
@@ -142,7 +143,7 @@ fn plus_one(n: usize, c: Cursor) -> Number
     Number::Refused(Refusal::Spelling)
 }
 
-// The `_` after the number n, which makes it the index n + 1.
+// Reads the `_` after the number n, which makes it the index n + 1.
 fn close_index(text: &[u8], c: Cursor, n: usize) -> Number
     requires { ⌜ c .at ≤ length (now text) ⌝ }
     ensures { λ r. ⌜ Numbered (close-index n (drop (c .at) (now (text .entry)))) (now (text .entry)) (c .at) r ⌝ }
@@ -156,7 +157,7 @@ fn close_index(text: &[u8], c: Cursor, n: usize) -> Number
     Number::Refused(Refusal::Spelling)
 }
 
-// `_` is 0, n and `_` is n + 1.
+// Reads an index. `_` is 0; n followed by `_` is n + 1.
 pub fn index(text: &[u8], c: Cursor) -> Number
     requires { ⌜ c .at ≤ length (now text) ⌝ }
     ensures { λ r. ⌜ Numbered (Text.index (drop (c .at) (now (text .entry)))) (now (text .entry)) (c .at) r ⌝ }
@@ -173,7 +174,7 @@ pub fn index(text: &[u8], c: Cursor) -> Number
     }
 }
 
-// An index and 1.
+// Reads an index, and returns it plus 1.
 pub fn index_plus_one(text: &[u8], c: Cursor) -> Number
     requires { ⌜ c .at ≤ length (now text) ⌝ }
     ensures { λ r. ⌜ Numbered (Text.index-plus-one (drop (c .at) (now (text .entry)))) (now (text .entry)) (c .at) r ⌝ }
@@ -184,7 +185,7 @@ pub fn index_plus_one(text: &[u8], c: Cursor) -> Number
     }
 }
 
-// The index of a parameter at a depth.
+// Reads the index of a parameter at a depth.
 fn index_at(text: &[u8], c: Cursor, depth: usize) -> ParamRead
     requires { ⌜ c .at ≤ length (now text) ⌝ }
     ensures { λ r. ⌜ Parameter (index-at depth (drop (c .at) (now (text .entry)))) (now (text .entry)) (c .at) r ⌝ }
@@ -201,7 +202,7 @@ fn index_at(text: &[u8], c: Cursor, depth: usize) -> ParamRead
     }
 }
 
-// The depth and the index of a generic parameter, after `d`.
+// Reads the depth and the index of a generic parameter, after `d`.
 pub fn depth_and_index(text: &[u8], c: Cursor) -> ParamRead
     requires { ⌜ c .at ≤ length (now text) ⌝ }
     ensures { λ r. ⌜ Parameter (Text.depth-and-index (drop (c .at) (now (text .entry)))) (now (text .entry)) (c .at) r ⌝ }
@@ -212,7 +213,7 @@ pub fn depth_and_index(text: &[u8], c: Cursor) -> ParamRead
     }
 }
 
-// A generic parameter: `z` is the first, `d` says the depth, an index alone is at depth 0.
+// Reads a generic parameter. `z` is the first, `d` precedes a depth, an index alone is at depth 0.
 pub fn generic_param_index(text: &[u8], c: Cursor) -> ParamRead
     requires { ⌜ c .at ≤ length (now text) ⌝ }
     ensures { λ r. ⌜ Parameter (Text.generic-param-index (drop (c .at) (now (text .entry)))) (now (text .entry)) (c .at) r ⌝ }

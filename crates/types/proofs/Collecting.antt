@@ -1,4 +1,4 @@
--- A whole list: the definition's loop of the whole is its loop of the rest from here.
+-- A whole list: the definition's loop over the whole is its loop over the rest from here.
 use mathlib.Core.Path.{_≡_, refl, ap, _∙_, subst}
 use mathlib.Core.List.{List}
 use Prim.Native.Nat.{ℕ, suc, _-_, _≤_, _<_}
@@ -20,7 +20,8 @@ use Rattle.types.specs.declared.Round.the-variants as Round
 use Rattle.cells.proofs.Cells.{listed-nil}
 use Rattle.cells.proofs.Gatherings.{gathering-none}
 
--- the loop with f rounds from the machine m on is at this list, with as many rounds as it may still need
+-- the loop with f rounds from the machine m on is at this list, with as many rounds as it may still
+-- need
 pub record Gone (loop : Loop) (nm : Names) (w : List ℕ) (N : ℕ) (st : State) (l : Chain) (sp : Spare) (f : ℕ) (m : Demangler) : Type 0 where
   pub list : Nodes
   pub machine : Demangler
@@ -54,7 +55,7 @@ going-start {w} {N} {st} loop r = record {
 }
 
 module _ (loop : Loop) {w₀ w w′ : List ℕ} {N : ℕ} {st₀ st : State} {l : Chain} (g : Going loop w₀ w N st₀ st l) where
-  -- one round more
+  -- one more round
   round-then : {next : Loop} {l′ : Chain} {u : State} → Turns loop next w w′ N st l l′ u → (nm : Names) (sp : Spare) (m : Demangler) (f : ℕ) → st₀ .depth < f → Holds nm w₀ N st₀ sp m →
       (left : ℕ) × (st .depth ≤ left) × Went (loop f nil) (next left) nm w′ N u l′ sp m
   round-then t nm sp m f q h =
@@ -93,7 +94,7 @@ module _ (loop : Loop) {w₀ w w′ : List ℕ} {N : ℕ} {st₀ st : State} {l 
     record { past = λ i k. t .1 .past i k ∙ g .keeps .past i k; long = t .1 .long ∙ g .keeps .long },
   )
 
--- an arm's answer of a round
+-- the result of an arm for a round
 module _ (loop : Loop) {w w′ : List ℕ} {N : ℕ} {st : State} {l : Chain} {r : Round} where
   pub round-more : (l′ : Chain) (u : State) → r ≡ Round.More l′ u → Rounds loop w w′ N st l r → Turns loop loop w w′ N st l l′ u × (u .depth < st .depth)
   round-more l′ u e h = subst (λ (x : Round). Rounds loop w w′ N st l x) e h

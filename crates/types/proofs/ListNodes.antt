@@ -1,4 +1,5 @@
--- Nodes over lists: tuples, lists of protocols, generic types with their arguments, generic signatures.
+-- Nodes over lists: tuples, lists of protocols, generic types with their arguments, generic
+-- signatures.
 use mathlib.Core.Path.{_≡_, refl, sym, ap, _∙_, subst}
 use mathlib.Core.Bool.{true, false}
 use mathlib.Core.List.{List, [], _∷_, _++_}
@@ -30,7 +31,7 @@ use Rattle.types.specs.declared.Listing.{Listing}
 use Rattle.types.specs.declared.Listing.the-variants as Listing
 use Rattle.cells.proofs.Cells.{cells-move, listed-moves, listed-nil}
 
--- as many places lie on the stack as there are trees on it
+-- the number of places on the stack is the number of trees on it
 pub stack-depth : {nm : Names} {w : List ℕ} {N : ℕ} {st : State} {sp : Spare} {m : Demangler} → Holds nm w N st sp m → length (m .stack) ≡ st .depth
 stack-depth {nm} {w} {N} {st} {sp} {m} h = go (m .stack) (st .depth) (h .stack)
   where
@@ -42,13 +43,13 @@ stack-depth {nm} {w} {N} {st} {sp} {m} h = go (m .stack) (st .depth) (h .stack)
 pub listed-cells : {nm : Names} {ns : Nodes} {w : List ℕ} {top : ℕ} {l : Chain} (k : ℕ) (f : ℕ → ℕ) → f k ≡ l .first → Listed nm ns w top l → Cells (Named nm) ns k f w top
 listed-cells {nm} {ns} {w} {top} {l} k f e c = cells-move nm (keeps-itself w 0 top) ns 0 k (λ _. l .first) f top top (omega arith) (omega arith) e (c .cells)
 
--- a machine and a list that lie there after a whole list was taken
+-- a machine and a list that the workspace holds after a whole list was taken
 pub gathered : {loop : Loop} {w w′ : List ℕ} {N : ℕ} {st u : State} {sp : Spare} {l : Chain} → Collected loop w w′ N st l u → Ready w N st sp → Gathering w′ N u sp l
 gathered {loop} {w} {w′} {N} {st} {u} {sp} c r =
     let t = c .gives (r .names) sp (r .machine) (suc (st .depth)) (omega arith) (r .holds) in
     record { names = r .names; machine = t .machine; list = t .list; holds = t .holds; listed = t .listed }
 
--- an arm's answer of a whole list
+-- the result of an arm for a whole list
 pub collected : (loop : Loop) {w w′ : List ℕ} {N : ℕ} {st : State} {r : Listing} (l : Chain) (u : State) → r ≡ Listing.Cells l u → Collects loop w w′ N st r → Collected loop w w′ N st l u
 collected loop {w} {w′} {N} {st} l u e h = subst (λ (x : Listing). Collects loop w w′ N st x) e h
 

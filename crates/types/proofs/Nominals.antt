@@ -47,7 +47,7 @@ nominal-done {w} {w₁} {w₂} {N} {st} {u} {v} {s} k name p kn z q ek ez eq a b
   long = l .keeps .long ∙ b .keeps .long;
 }
 
--- no name, or no context under it
+-- no name, or no context below it
 pub nominal-nameless : {w : List ℕ} {N : ℕ} {st : State} (k : NominalKind) → ((nm : Names) (sp : Spare) (m : Demangler) → Holds nm w N st sp m → R.pop-name m ≡ refused 10) → Operates (λ _. R.nominal k) w w N st (Step.Refused Refusal.Stack)
 unfolding R.nominal E.number
 nominal-nameless k a = record { runs = λ nm m i h. rw (a nm full-spare m h) refl; past = λ i l. refl; long = refl }
@@ -62,7 +62,7 @@ nominal-homeless {w} {w₁} {N} {st} {u} k name a b = record {
   long = b .1 .long;
 }
 
--- an arm's answer of what takes a name
+-- the result of an arm that takes a name
 pub taken-name : (f : Run Name) {w : List ℕ} {N : ℕ} {st : State} {r : NameTaken} (k : ℕ) (u : State) → r ≡ NameTaken.Name k u → TakesName f w N st r → GivesName f w N st k u
 taken-name f {w} {N} {st} k u e h = subst (λ (x : NameTaken). TakesName f w N st x) e h
 

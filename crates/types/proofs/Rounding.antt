@@ -110,7 +110,7 @@ module _ {w w₁ : List ℕ} {N : ℕ} {st : State} {first : Marked} where
 
 -- ARGUMENTS
 module _ {w w′ : List ℕ} {N : ℕ} {st u : State} {l : Chain} {p : ℕ} {r : Added} where
-  -- a node that was tried for, and its cell: the loop goes on, as `step` says
+  -- a node that was tried for, and its cell: the loop continues, as `step` says
   tried-turns : (loop : Loop) (want : ℕ → Bool) → ((f : ℕ) (ns : Nodes) (m m₁ : Demangler) (x : Node) → R.try want m ≡ ok (some x) m₁ → loop (suc f) ns m ≡ loop f (cons none x ns) m₁) → GivesIf (R.try want) w N st p u → Adds w w′ N u l absent p r →
       Turns loop loop w w′ N st l (r .list) (r .next) × (r .next .depth < st .depth)
   tried-turns loop want step d q = (
@@ -148,7 +148,7 @@ requirements-end {w} {N} {st} l d = record {
 }
 
 module _ {w : List ℕ} {N : ℕ} {st : State} {opened : Marked} (none-there : Missing K.is-type w N st) (a : Marks (R.took K.empty-list) w N st opened) where
-  -- the list's beginning
+  -- the beginning of the list
   pub arguments-end : (l : Chain) → opened .taken ≡ true → Turns R.arguments (λ f. ret) w w N st l l (opened .next)
   unfolding R.arguments
   arguments-end l e = record {

@@ -1,4 +1,5 @@
--- Lists that operators take from the stack: how they lie in the workspace, and what the code that takes them says of the definition's loops.
+-- Lists that operators take from the stack: how they are stored in the workspace, and what the code
+-- that takes them says about the definition's loops.
 use mathlib.Core.Path.{_≡_}
 use mathlib.Core.List.{List}
 use Prim.Native.Nat.{ℕ, suc, _+_, _≤_, _<_}
@@ -22,11 +23,11 @@ use Rattle.types.specs.declared.Lists.{Lists}
 use Rattle.types.specs.declared.Lists.the-variants as Lists
 use Rattle.cells.specs.Cells.{grown, Listed}
 
--- a loop of the definition, by the rounds that it may have and the list so far
+-- a loop of the definition, given the number of rounds that it may have and the list so far
 abbrev pub Loop : Type 0
 Loop = ℕ → Nodes → Run Nodes
 
--- the step f comes to what next makes of a list that lies there
+-- the step f has the same result as next of a list that w holds
 pub record Went (f : Run Nodes) (next : Nodes → Run Nodes) (nm : Names) (w : List ℕ) (N : ℕ) (u : State) (l : Chain) (sp : Spare) (m : Demangler) : Type 0 where
   pub list : Nodes
   pub machine : Demangler
@@ -34,7 +35,7 @@ pub record Went (f : Run Nodes) (next : Nodes → Run Nodes) (nm : Names) (w : L
   pub listed : Listed nm list w (u .top) l
   pub holds : Holds nm w N u (grown list sp) machine
 
--- one round of a loop, whatever machine and list lay in w
+-- one round of a loop, for any machine and list that w held
 pub record Turns (loop next : Loop) (w w′ : List ℕ) (N : ℕ) (st : State) (l : Chain) (l′ : Chain) (u : State) : Type 0 where
   pub rising : st .top ≤ u .top
   pub keeps : Keeps w w′ N (st .top)
@@ -61,7 +62,7 @@ loop-of Lists.Arguments = R.arguments
 loop-of Lists.Requirements = R.requirements
 loop-of Lists.Members = R.members
 
--- the nodes of a kind that have a list alone, from field 3 on
+-- the nodes of a kind that only have a list, from field 3 on
 pub record ListNode (k : ℕ) (c : Nodes → Node) : Type 0 where
   pub kind-is : (ns : Nodes) → kind (c ns) ≡ k
   pub size-is : (ns : Nodes) → size (c ns) ≡ 1 + sizes ns

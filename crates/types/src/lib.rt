@@ -1,4 +1,5 @@
-// What the operators that make types do to the records: the functions of the Rust under their names.
+// The effects of the operators that make types on the records: the functions of the Rust under
+// their names.
 ghost use Prim.Native.Nat.{_+_};
 ghost use Rattle.definition.specs.Enums as E;
 ghost use Rattle.definition.specs.Node.{Node, Nodes};
@@ -22,7 +23,7 @@ use records::Fields;
 use records::Popped;
 use records::State;
 
-// What one round of a list comes to.
+// The result of one round of a list.
 pub enum Round {
     More(Chain, State),
     Last(Chain, State),
@@ -35,7 +36,8 @@ pub enum Listing {
     Nothing,
 }
 
-// The lists: a tuple's elements, the arguments of a generic type, a signature's requirements, the members of a protocol list.
+// The lists: the elements of a tuple, the arguments of a generic type, the requirements of a
+// signature, the members of a protocol list.
 pub enum Lists {
     Elements,
     Arguments,
@@ -68,7 +70,7 @@ pub fn nominal(ws: &mut [u32], n: usize, st: State, kind: NominalKind) -> Step
     }
 }
 
-// One element of a tuple, from its marker down to its type.
+// Takes one element of a tuple, from its marker down to its type.
 fn element(ws: &mut [u32], n: usize, st: State, l: Chain) -> Round
     requires { ⌜ Gathering (now ws) n st nothing-spare l ⌝ }
     ensures { λ r. ⌜ Rounds R.elements (now (ws .entry)) (now (ws .exit)) n st l r ⌝ }
@@ -93,7 +95,8 @@ fn element(ws: &mut [u32], n: usize, st: State, l: Chain) -> Round
     }
 }
 
-// One argument of a generic type; the marker between two levels; or the list's beginning.
+// Takes one argument of a generic type, the marker between two levels, or the beginning of the
+// list.
 fn argument(ws: &mut [u32], n: usize, st: State, l: Chain) -> Round
     requires { ⌜ Gathering (now ws) n st nothing-spare l ⌝ }
     ensures { λ r. ⌜ Rounds R.arguments (now (ws .entry)) (now (ws .exit)) n st l r ⌝ }
@@ -119,7 +122,7 @@ fn argument(ws: &mut [u32], n: usize, st: State, l: Chain) -> Round
     }
 }
 
-// One requirement, or the end of them.
+// Takes one requirement, or finds the end of them.
 fn one_requirement(ws: &mut [u32], n: usize, st: State, l: Chain) -> Round
     requires { ⌜ Gathering (now ws) n st nothing-spare l ⌝ }
     ensures { λ r. ⌜ Rounds R.requirements (now (ws .entry)) (now (ws .exit)) n st l r ⌝ }
@@ -135,7 +138,7 @@ fn one_requirement(ws: &mut [u32], n: usize, st: State, l: Chain) -> Round
     }
 }
 
-// One member of a protocol list, from its marker down to its protocol.
+// Takes one member of a protocol list, from its marker down to its protocol.
 fn member(ws: &mut [u32], n: usize, st: State, l: Chain) -> Round
     requires { ⌜ Gathering (now ws) n st nothing-spare l ⌝ }
     ensures { λ r. ⌜ Rounds R.members (now (ws .entry)) (now (ws .exit)) n st l r ⌝ }
@@ -156,7 +159,7 @@ fn member(ws: &mut [u32], n: usize, st: State, l: Chain) -> Round
     }
 }
 
-// One round of a list.
+// Performs one round of a list.
 fn one_round(ws: &mut [u32], n: usize, st: State, l: Chain, of: Lists) -> Round
     requires { ⌜ Gathering (now ws) n st nothing-spare l ⌝ }
     ensures { λ r. ⌜ Rounds (loop-of of) (now (ws .entry)) (now (ws .exit)) n st l r ⌝ }
@@ -169,7 +172,7 @@ fn one_round(ws: &mut [u32], n: usize, st: State, l: Chain, of: Lists) -> Round
     }
 }
 
-// A list, from its last node on: each node is put in front.
+// Takes a list, from its last node on. Each node is put in front.
 fn collect(ws: &mut [u32], n: usize, st: State, of: Lists) -> Listing
     requires { ⌜ Ready (now ws) n st nothing-spare ⌝ }
     ensures { λ r. ⌜ Collects (loop-of of) (now (ws .entry)) (now (ws .exit)) n st r ⌝ }
@@ -196,7 +199,7 @@ fn collect(ws: &mut [u32], n: usize, st: State, of: Lists) -> Listing
     }
 }
 
-// A node of a kind over a list; the empty list stands for no nodes.
+// Pushes a node of a kind over a list. The empty list represents no nodes.
 fn over_list(ws: &mut [u32], n: usize, st: State, of: Lists, kind: u32) -> Step
     requires { ⌜ Ready (now ws) n st full-spare ⌝ }
     ensures { λ r. ⌜ ((c : Nodes → Node) → ListNode kind c → Operates (delimited (loop-of of) c) (now (ws .entry)) (now (ws .exit)) n st r) ⌝ }
@@ -239,7 +242,7 @@ pub fn protocol_list(ws: &mut [u32], n: usize, st: State) -> Step
     }
 }
 
-// The arguments of a generic type, and the type that has them. It is remembered.
+// Takes the arguments of a generic type, and the type that has them. The result is remembered.
 fn apply(ws: &mut [u32], n: usize, st: State) -> Step
     requires { ⌜ Ready (now ws) n st full-spare ⌝ }
     ensures { λ r. ⌜ Operates applied (now (ws .entry)) (now (ws .exit)) n st r ⌝ }
@@ -274,7 +277,7 @@ pub fn bound_generic(ws: &mut [u32], n: usize, st: State) -> Step
     }
 }
 
-// `l`, `r`: a generic signature of so many parameters.
+// `l`, `r`: a generic signature with `params` parameters.
 pub fn generic_signature(ws: &mut [u32], n: usize, st: State, params: usize) -> Step
     requires { ⌜ Ready (now ws) n st full-spare ⌝ }
     ensures { λ r. ⌜ Operates (λ _. R.generic-signature params) (now (ws .entry)) (now (ws .exit)) n st r ⌝ }

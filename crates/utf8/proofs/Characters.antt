@@ -98,7 +98,7 @@ passed-is text e l (Behind.At next) h = record { is = e ∙ h .is; inside = h .i
 passed-is text e l Behind.Broken h = e ∙ h
 
 -- THE TEXT
--- the loop of `ill_formed`: what stands before `at` is well-formed
+-- the loop of `ill_formed`: the text before `at` is well-formed
 pub record Scanning (text : Text) (at : ℕ) : Type 0 where
   pub fuel : ℕ
   pub enough : length text ≤ at + fuel
@@ -142,7 +142,7 @@ module _ {text : Text} {at : ℕ} (s : Scanning text at) where
   pub scan-end : length text ≤ at → ill-formed text ≡ none
   scan-end h = s .same ∙ from-end text at (length text) (s .fuel) h
 
--- ASCII is passed over
+-- ASCII is skipped
 scan-ascii : {text : Text} {at : ℕ} (n to : ℕ) → at + n ≡ to → Scanning text at → to ≤ length text → Each below-80 text at to → Scanning text to
 scan-ascii {text} {at} zero to e s l h = let k : at ≡ to = omega arith in subst (Scanning text) k s
 scan-ascii {text} {at} (suc n) to e s l h =

@@ -1,4 +1,5 @@
--- A part of a well-formed text is well-formed if it begins and ends between characters, and only then. Assumes nothing.
+-- A part of a well-formed text is well-formed if it begins and ends between characters, and only
+-- then. Assumes nothing.
 use mathlib.Core.Path.{_≡_, refl, sym, subst, ap, _∙_}
 use mathlib.Core.Bool.{Bool, true, false, _&&_, not, and-eq-true-iff}
 use mathlib.Core.List.{List, [], _∷_, _++_}
@@ -14,7 +15,7 @@ use Rattle.definition.specs.Text.{Text, Utf8Row, utf8-rows, tails, second, by-r
 use Rattle.text.proofs.Steps.{front, differ}
 use Rattle.utf8.proofs.Characters.{character-ascii, character-row, well-formed-no, well-formed-all}
 
--- a byte of 80 to BF: those of a character behind its first are such, and its first is not
+-- a byte of 80 to BF: the bytes of a character after its first are such, and its first is not
 abbrev pub tail : ℕ → Bool
 tail b = between 0x80 0xBF b
 
@@ -26,7 +27,8 @@ both : (m n k l : ℕ) → (leb m n && leb k l) ≡ true → (m ≤ n) × (k ≤
 both m n k l e = let h = and-eq-true-iff (leb m n) (leb k l) .0 e in (leb-true m n (h .0), leb-true k l (h .1))
 
 -- A CHARACTER
--- f takes bytes of 80 to BF from the front of t and leaves u; it takes them before any rest, and nothing where some of them are missing
+-- f takes bytes of 80 to BF from the front of t and leaves u; it takes them before any rest, and
+-- nothing if some of them are missing
 pub record Takes (f : Text → Option Text) (t u : Text) : Type 0 where
   pub taken : Text
   pub is : t ≡ taken ++ u
@@ -69,7 +71,7 @@ unfolding tails
 tails-takes zero t e = takes-nothing (λ v. refl) e
 tails-takes (suc n) t e = takes-tested {g = tails n} tail (λ b k. k) refl (λ b v k. rw (tails, k)) (λ b v k. rw (tails, k)) t (λ v. tails-takes n v) e
 
--- a row's second bytes are of 80 to BF, and its first bytes are not
+-- the second bytes of a row are of 80 to BF, and its first bytes are not
 fits : Utf8Row → Bool
 fits r = leb 0xC0 (r .first) && (leb 0x80 (r .low) && leb (r .high) 0xBF)
 
@@ -138,7 +140,8 @@ pub data Characters : Text → Type 0 where
   done : Characters []
   more : {b : ℕ} {t u : Text} → character b t ≡ some u → Characters u → Characters (b ∷ t)
 
--- what follows the first character is so, too; there is a first character, and its first byte is not of 80 to BF
+-- so is what follows the first character; there is a first character, and its first byte is not of
+-- 80 to BF
 pub behind : {b : ℕ} {t u : Text} → Characters (b ∷ t) → character b t ≡ some u → Characters u
 behind {u = u} (more {u = v} e h) k = let z : some v ≡ some u = sym e ∙ k in let q : v ≡ u = cc in subst Characters q h
 
@@ -196,7 +199,8 @@ ill t h = by (well-formed t) refl
     by false e = e
 
 -- A PART
--- the byte at a place tells whether the place lies between two characters, or at an end of the text (apart), or among the bytes of one (inside)
+-- the byte at a place says whether the place is between two characters, or at an end of the text
+-- (apart), or among the bytes of one (inside)
 data Cut (t : Text) (k : ℕ) : Type 0 where
   apart : tail (getD t k 0) ≡ false → Characters (take k t) → Characters (drop k t) → Cut t k
   inside : tail (getD t k 0) ≡ true → (Characters (take k t) → ⊥) → Cut t k
@@ -251,12 +255,13 @@ module _ (text : Text) (from to : ℕ) (inside : to ≤ length text) where
       let n : to - from ≡ suc (to - from - 1) = omega arith in
       ill _ (λ c. differ (sym e ∙ first-byte (rw (n, f) at c)))
 
-  -- a part that begins between characters is well-formed if it ends between characters, and only then
+  -- a part that begins between characters is well-formed if it ends between characters, and only
+  -- then
   pub part-ends : from ≤ to → Characters (drop from text) → well-formed (take (to - from) (drop from text)) ≡ not (tail (getD text to 0))
   part-ends order h =
       let n : from + (to - from) ≡ to = omega arith in
       take-characters h (to - from) (omega (arith, length-drop from text)) ∙ ap (λ (b : ℕ). not (tail b)) (getD-drop from text (to - from) 0 ∙ ap (λ (i : ℕ). getD text i 0) n)
 
-  -- and if it ends with the text: `getD` gives 0 there, which is not of 80 to BF
+  -- also if it ends with the text: `getD` gives 0 there, which is not of 80 to BF
   pub part-last : from ≤ to → to ≡ length text → Characters (drop from text) → well-formed (take (to - from) (drop from text)) ≡ true
   part-last order e h = part-ends order h ∙ ap (λ (b : ℕ). not (tail b)) (List·getD-eq-default text 0 (omega arith))

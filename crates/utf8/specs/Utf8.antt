@@ -1,4 +1,4 @@
--- What an answer about UTF-8 says of the definition (RFC 3629). Assumes nothing.
+-- What a result about UTF-8 says about the definition (RFC 3629). Assumes nothing.
 use mathlib.Core.Path.{_≡_}
 use mathlib.Core.Bool.{Bool}
 use mathlib.Core.Option.{Option, some, none}
@@ -27,7 +27,7 @@ abbrev pub RowIs : ℕ → RowFound → Type 0
 RowIs b (RowFound.Row i) = Begins b i
 RowIs b RowFound.Nothing = (t : Text) → by-row b utf8-rows t ≡ none
 
--- the outcome is the text from next on, which lies at `least` or later
+-- the outcome is the text from next on, which is at `least` or later
 pub record Follows (out : Option Text) (text : Text) (least next : ℕ) : Type 0 where
   pub is : out ≡ some (drop next text)
   pub inside : next ≤ length text

@@ -21,14 +21,14 @@ enum RowFound {
     Nothing,
 }
 
-// The place behind what was read.
+// The place after what was read.
 enum Behind {
     At(usize),
     Broken,
 }
 
-// The rows of RFC 3629, section 4: the first byte lies between FIRST and LAST, the second between LOW and HIGH, and then
-// come MORE bytes of 80 to BF.
+// The rows of RFC 3629, section 4: the first byte is between FIRST and LAST, the second is between
+// LOW and HIGH, followed by MORE bytes of 80 to BF.
 const FIRST: [u8; 8] = [0xC2, 0xE0, 0xE1, 0xED, 0xEE, 0xF0, 0xF1, 0xF4];
 
 const LAST: [u8; 8] = [0xDF, 0xE0, 0xEC, 0xED, 0xEF, 0xF0, 0xF3, 0xF4];
@@ -39,7 +39,7 @@ const HIGH: [u8; 8] = [0xBF, 0xBF, 0xBF, 0x9F, 0xBF, 0xBF, 0xBF, 0x8F];
 
 const MORE: [usize; 8] = [0, 1, 1, 1, 1, 2, 2, 2];
 
-// Whether b lies between low and high, both included.
+// Whether b is between low and high, both included.
 fn between(low: u8, high: u8, b: u8) -> bool
     ensures { λ r. ⌜ r ≡ Base.between low high b ⌝ }
 {
@@ -65,7 +65,7 @@ fn continues(b: u8, i: usize) -> bool
     between(LOW[i], HIGH[i], b)
 }
 
-// How many bytes follow the second of row i.
+// Returns how many bytes follow the second of row i.
 fn more(i: usize) -> usize
     requires { ⌜ i < 8 ⌝ }
     ensures { λ r. ⌜ r ≡ row-at utf8-rows i .more ⌝ }
@@ -73,7 +73,7 @@ fn more(i: usize) -> usize
     MORE[i]
 }
 
-// The row that b begins.
+// Returns the row that b begins.
 fn row_of(b: u8) -> RowFound
     ensures { λ r. ⌜ RowIs b r ⌝ }
 {
@@ -87,7 +87,7 @@ fn row_of(b: u8) -> RowFound
     RowFound::Nothing
 }
 
-// The place behind n bytes of 80 to BF.
+// Returns the place after n bytes of 80 to BF.
 fn tails(text: &[u8], from: usize, n: usize) -> Behind
     requires { ⌜ from ≤ length (now text) ⌝ }
     ensures { λ r. ⌜ Passed (Text.tails n (drop from (now (text .entry)))) (now (text .entry)) from r ⌝ }
@@ -107,7 +107,7 @@ fn tails(text: &[u8], from: usize, n: usize) -> Behind
     Behind::At(at)
 }
 
-// The place behind the bytes after the first, by row i.
+// Returns the place after the bytes that follow the first, by row i.
 fn second(text: &[u8], at: usize, i: usize) -> Behind
     requires { ⌜ i < 8 ⌝ }
     ensures { λ r. ⌜ Passed (Text.second (row-at utf8-rows i) (drop at (now (text .entry)))) (now (text .entry)) at r ⌝ }
@@ -121,7 +121,7 @@ fn second(text: &[u8], at: usize, i: usize) -> Behind
     Behind::Broken
 }
 
-// The place behind the character at a place.
+// Returns the place after the character at a place.
 fn character(text: &[u8], at: usize) -> Behind
     requires { ⌜ at < length (now text) ⌝ }
     ensures { λ r. ⌜ Passed (Text.character (getD (now (text .entry)) at 0) (drop (at + 1) (now (text .entry)))) (now (text .entry)) (at + 1) r ⌝ }
@@ -136,7 +136,8 @@ fn character(text: &[u8], at: usize) -> Behind
     }
 }
 
-// Whether the eight bytes from a place on are all below 80. No test waits for another, so the compiler makes one of all.
+// Whether the eight bytes from a place on are all below 80. No test depends on another, so the
+// compiler combines them into one.
 fn eight_ascii(text: &[u8], at: usize) -> bool
     requires { ⌜ at + 8 ≤ length (now text) ⌝ }
     ensures { λ r. ⌜ (r ≡ true → Each below-80 (now (text .entry)) at (at + 8)) ⌝ }
@@ -152,8 +153,9 @@ fn eight_ascii(text: &[u8], at: usize) -> bool
     first & last
 }
 
-// The place behind bytes below 80, eight at a time, from a place on. Fewer than eight are left behind the loop: the last eight of the
-// text have them all, and some that were tested before.
+// Returns the place after bytes below 80, eight at a time, from a place on. After the loop fewer
+// than eight bytes are left. The last eight bytes of the text include them all, and some that were
+// already tested.
 fn past_ascii(text: &[u8], from: usize) -> usize
     requires { ⌜ from ≤ length (now text) ⌝ }
     ensures { λ r. ⌜ (from ≤ r) × (r ≤ length (now (text .entry))) × Each below-80 (now (text .entry)) from r ⌝ }
@@ -187,14 +189,16 @@ pub fn ill_formed(text: &[u8]) -> IllFormed
     IllFormed::Nowhere
 }
 
-// Whether b is a byte of 80 to BF: those of a character behind its first are such, and its first is not.
+// Whether b is a byte of 80 to BF. The bytes of a character after its first are such, and its first
+// is not.
 fn is_tail(b: u8) -> bool
     ensures { λ r. ⌜ r ≡ Base.between 0x80 0xBF b ⌝ }
 {
     (0x80 <= b) & (b <= 0xBF)
 }
 
-// Whether text[from..to] is well-formed, where the whole text is: it begins and ends between characters.
+// Whether text[from..to] is well-formed, if the whole text is: it begins and ends between
+// characters.
 pub fn between_characters(text: &[u8], from: usize, to: usize) -> bool
     requires { ⌜ (from < to) × (to ≤ length (now text)) × (Text.well-formed (now text) ≡ true) ⌝ }
     ensures { λ r. ⌜ r ≡ Text.well-formed (take (to - from) (drop from (now (text .entry)))) ⌝ }

@@ -1,4 +1,4 @@
--- An answer's six values, case by case. Assumes nothing.
+-- The six values of an answer, case by case. Assumes nothing.
 use mathlib.Core.Path.{_≡_, sym, ap, _∙_}
 use Prim.Native.Nat.{ℕ}
 use Rattle.definition.specs.Enums.{number, values}

@@ -8,6 +8,6 @@ use Rattle.values.specs.declared.Values.{Values}
 abbrev pub meant : Values → Calls.Values
 meant v = record { number = v .number; place = v .place; steps = v .steps; total = v .total; wraps = v .wraps; length = v .length }
 
--- the refusal's number (0: accepted), its place, steps, total, wraps, length
+-- the number of the refusal (0: accepted), its place, steps, total, wraps, length
 abbrev pub six : Calls.Values → List ℕ
 six v = v .number ∷ v .place ∷ v .steps ∷ v .total ∷ v .wraps ∷ v .length ∷ []

@@ -1,11 +1,11 @@
-// An answer in numbers: a refusal's number, and the six values of an answer.
+// An answer in numbers: the number of a refusal, and the six values of an answer.
 ghost use mathlib.Core.Path.{_≡_};
 ghost use Rattle.definition.specs.Enums as Enums;
 ghost use Rattle.values.specs.Six.{meant, six};
 use definition::Answer;
 use definition::Refusal;
 
-// The number that document 01 gives a refusal.
+// Returns the number that document 01 gives a refusal.
 pub fn number(refusal: Refusal) -> usize
     ensures { λ r. ⌜ r ≡ Enums.number refusal ⌝ }
 {
@@ -25,7 +25,7 @@ pub fn number(refusal: Refusal) -> usize
     }
 }
 
-// An answer as document 01 has it: number 0 where the text is accepted.
+// An answer as in document 01. The number is 0 if the text is accepted.
 pub struct Values {
     pub number: usize,
     pub place: usize,
@@ -58,7 +58,7 @@ pub fn values_of(a: Answer) -> Values
     }
 }
 
-// The answer as six numbers.
+// Returns the answer as six numbers.
 pub fn numbers(a: Answer) -> [u64; 6]
     ensures { λ r. ⌜ r ≡ six (Enums.values a) ⌝ }
 {

@@ -1,4 +1,4 @@
--- One literal more, and one that is noted. Assumes nothing.
+-- One more literal, and one that is noted. Assumes nothing.
 use mathlib.Core.Path.{_≡_, refl, sym, ap, _∙_}
 use mathlib.Core.Bool.{Bool, true, false, _||_, true≢false}
 use mathlib.Core.List.{List}
@@ -39,7 +39,7 @@ noted-begins text q known = go (q .count)
 pub noted-nothing : {A : Type 0} (note : Name → A → A) (text : Text) (q : Waiting) (known : A) → q .count ≡ 0 → noted-behind note text q known ≡ known
 noted-nothing note text q known e = ap (λ (n : ℕ). noted-from note text (q .starts) (q .lengths) n known) e ∙ sym (noted-none note text (q .starts) (q .lengths) known)
 
--- what is stored behind the literals does not change them
+-- what is stored after the literals does not change them
 noted-set : {A : Type 0} (note : Name → A → A) (text : Text) (s l : List ℕ) (i a b n : ℕ) (known : A) → n ≤ i → noted-from note text (set s i a) (set l i b) n known ≡ noted-from note text s l n known
 unfolding noted-from
 noted-set note text s l i a b zero known h = refl
@@ -48,7 +48,7 @@ noted-set note text s l i a b (suc n) known h =
     let d : n ≡ i → ⊥ = λ e. omega arith in
     rw (noted-set note text s l i a b n known k, getD-set-other s i n a 0 d, getD-set-other l i n b 0 d)
 
--- q with a literal behind it
+-- q followed by a literal
 abbrev pub longer : Waiting → ℕ → ℕ → Waiting
 longer q from to = record { starts = set (q .starts) (q .count) from; lengths = set (q .lengths) (q .count) (to - from); count = q .count + 1 }
 
@@ -82,14 +82,14 @@ module _ (text : Text) (q : Waiting) (i : ℕ) {from len : ℕ} (es : from ≡ g
   pub literal-inside : Waits text q → i < q .count → from + len ≤ length text
   literal-inside h k = omega (arith, h .inside i k, es, el)
 
-  -- the literal i is noted behind those before it
+  -- the literal i is noted after those before it
   pub noted-next : {A : Type 0} (note : Name → A → A) (known : A) → noted-from note text (q .starts) (q .lengths) (i + 1) known ≡ note (part text from (from + len)) (noted-from note text (q .starts) (q .lengths) i known)
   unfolding noted-from
   noted-next note known =
       let e : (from + len) - from ≡ len = omega arith in
       rw (add-one, e, es, el)
 
--- THE TEST OF THE RUNS: no `0` stands there, and fewer than 16 literals wait
+-- THE TEST OF THE RUNS: the byte there is not `0`, and fewer than 16 literals wait
 module _ (b held : ℕ) (e : (eqb b 48 || eqb held 16) ≡ false) where
   pub no-zero : is "0" b ≡ false
   no-zero = neither (eqb b 48) (eqb held 16) e .0

@@ -1,4 +1,5 @@
-// The literals whose words are not noted yet: most texts have no identifier that looks for a word, and none is noted there.
+// The literals whose words are not noted yet. Most texts have no identifier that uses a word, and
+// for them no word is noted.
 ghost use mathlib.Core.Path.{_≡_};
 ghost use Prim.Native.Nat.{_≤_, _<_};
 ghost use lib.ListN.{length};
@@ -19,7 +20,7 @@ pub struct Waiting {
 }
 
 impl Waiting {
-    // No literal waits.
+    // Returns an empty queue of literals.
     pub fn new() -> Waiting
         ensures { λ r. ⌜ (r .count ≡ 0) × ((text : Text) → Waits text r) ⌝ }
     {
@@ -37,7 +38,7 @@ fn wide(x: u16) -> usize
     x as usize
 }
 
-// The literal text[from..to] waits behind the others.
+// Appends the literal text[from..to] to the queue.
 pub fn wait(q: Waiting, from: usize, to: usize) -> Waiting
     requires { ⌜ (q .count < 16) × (from ≤ to) × (to ≤ 65535) ⌝ }
     ensures { λ r. ⌜ ((text : Text) → to ≤ length text → Waits text q → More text from to q r) ⌝ }
@@ -50,7 +51,7 @@ pub fn wait(q: Waiting, from: usize, to: usize) -> Waiting
     more
 }
 
-// The table with the words of all that waits.
+// Returns the table with the words of all literals in the queue.
 pub fn note_waiting(text: &[u8], q: Waiting, w: Words) -> Words
     requires { ⌜ (length (now text) ≤ 65535) × Waits (now text) q × Fitting (now text) w ⌝ }
     ensures { λ r. ⌜ Holds (now (text .entry)) (noted-behind W.note-words (now (text .entry)) q (table (now (text .entry)) w)) w r ⌝ }
@@ -67,7 +68,7 @@ pub fn note_waiting(text: &[u8], q: Waiting, w: Words) -> Words
     known
 }
 
-// How many words are known with those of all that waits.
+// Returns how many words are known, including those of all literals in the queue.
 pub fn count_waiting(text: &[u8], q: Waiting, before: usize) -> usize
     requires { ⌜ (length (now text) ≤ 65535) × Waits (now text) q ⌝ }
     ensures { λ r. ⌜ r ≡ noted-behind (C.count-words-from 0 0) (now (text .entry)) q before ⌝ }

@@ -1,4 +1,4 @@
--- What a record is about, and the records of words over it.
+-- The subject of a record, and the records of words over it.
 use mathlib.Core.Path.{_≡_, refl, ap, _∙_, subst}
 use mathlib.Core.List.{List, [], _∷_}
 use Prim.Native.Nat.{ℕ, _+_, _-_, _≤_, _<_}
@@ -29,7 +29,7 @@ use Rattle.nodes.proofs.Ready.{ready-less, after-grew}
 use Rattle.record_parts.proofs.Abouts.{Not}
 
 -- WHAT IS LEFT TO SPARE
--- an operator's spare without one node
+-- what an operator has to spare, without one node
 abbrev pub but-one : Spare
 but-one = spare 15 1 3 1
 
@@ -50,7 +50,7 @@ under sp a b l z r =
     }
 
 -- RECORDS OF WORDS
--- the words by what the record's numbers say
+-- the words, given by the numbers of the record
 pub fixed-words : {nm : Names} {k z p c : ℕ} {what : Name} → Named nm c what → WordsOf (Named nm) what (λ i. getD (k ∷ z ∷ 0 ∷ 0 ∷ p ∷ c ∷ 0 ∷ 0 ∷ []) i 0)
 fixed-words h = fixed refl h
 
@@ -82,7 +82,7 @@ module _ (f : Run Node) {w w₁ w₂ : List ℕ} {N : ℕ} {st u v : State} {p :
 pub first-refused : (f : Run Node) (g : (ℕ → String) → Node → Run Done) {w w′ : List ℕ} {N : ℕ} {st : State} (r : Refusal) → Not f (number r) w w′ N st → Operates (λ s. f >>= λ x. g s x) w w′ N st (Step.Refused r)
 first-refused f g r h = record { runs = λ nm m i k. ap (λ y. and-then y (g (nm .fixed))) (h .0 nm full-spare m k); past = h .1 .past; long = h .1 .long }
 
--- an arm's answer of what is built
+-- the result of an arm for what is built
 pub built-at : (f : Run Node) (own gain : ℕ) {w w′ : List ℕ} {N : ℕ} {st : State} {r : Built} (p : ℕ) (u : State) → r ≡ Built.Place p u → Builds f own gain w w′ N st r → Building f own gain w w′ N st p u
 built-at f own gain {w} {w′} {N} {st} p u e h = subst (λ (x : Built). Builds f own gain w w′ N st x) e h
 
@@ -134,7 +134,7 @@ ready-one l r = ready-less (spare 0 0 1 0) (omega arith) (omega arith) (omega ar
 pub under-built : {f : Run Node} {w w₁ : List ℕ} {N : ℕ} {st u : State} {p : ℕ} → Building f 1 1 w w₁ N st p u → Ready w N st full-spare → Under w₁ N u p
 under-built g r = under (taken 1 0 but-one) (omega arith) (omega arith) (g .below) (omega (arith, g .small)) (after-built but-one g r)
 
--- an arm's answer about a name
+-- the result of an arm about a name
 pub named-at : (f : Run Name) {w : List ℕ} {N : ℕ} {st : State} {r : NameTaken} (k : ℕ) (u : State) → r ≡ NameTaken.Name k u → TakesName f w N st r → GivesName f w N st k u
 named-at f {w} {N} {st} k u e h = subst (λ (x : NameTaken). TakesName f w N st x) e h
 

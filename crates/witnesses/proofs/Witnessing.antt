@@ -97,7 +97,7 @@ witness-second r a b =
     let e : Beyond 64 _ _ _ = beyond-then (a .keeps) (b .1) in
     record { runs = λ nm m i h. let c = a .gives nm full-spare m h in rw (c .is, b .0 nm (taken 3 (size (c .tree)) full-spare) (c .machine) (c .holds)) refl; past = e .past; long = e .long }
 
--- the entity's size, behind the conformance
+-- the size of the entity, after the conformance
 pub entity-small : {f g : Run Node} {a b : ℕ} {w w₁ w₂ : List ℕ} {N : ℕ} {st u v : State} {p q : ℕ} → Gives f a w w₁ N st p u → Building g 1 b w₁ w₂ N u q v → at w₂ p 1 ≤ 262144
 entity-small {p = p} x y = omega (arith, x .small, y .keeps .fields p 1 (x .below) (omega arith))
 
@@ -106,7 +106,7 @@ after-qualifier a r = let g = a .gives (r .names) _ (r .machine) (r .holds) in r
 
 -- `Tn`
 module _ {w w₁ w₂ : List ℕ} {N : ℕ} {st u : State} {required : ℕ} {k : Marked} {q : Qualified} (a : Gives R.protocol 2 w w₁ N st required u) (b : Marks (R.took 31) w₁ N u k) (c : Qualifies w₁ w₂ N (k .next) q) where
-  -- what was required lies below
+  -- what was required is below
   pub required-below : required < q .next .top
   required-below = omega (arith, a .below, b .top, c .rising)
 

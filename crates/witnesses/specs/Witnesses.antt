@@ -1,4 +1,4 @@
--- What the code of records and witnesses says of the definition's steps.
+-- What the code of records and witnesses says about the definition's steps.
 use Prim.Native.Nat.{ℕ}
 use Prim.Native.String.{String}
 use Rattle.definition.specs.Base.{Name, _>>=_}
@@ -8,6 +8,6 @@ use Rattle.definition.specs.Operators.{About}
 use Rattle.definition.specs.Perform.{about}
 use Rattle.nodes.specs.Gives.{Performed}
 
--- a record of words over what it is about; the words by the fixed names
+-- a record of words over its subject; the words are given by the fixed names
 abbrev pub record-over : About → ((ℕ → String) → Name) → Performed
 record-over a what fixed = about a >>= λ x. push (Record (what fixed) x)

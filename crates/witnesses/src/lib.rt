@@ -1,4 +1,5 @@
-// What the operators of records and witnesses do to the records: the functions of the Rust under their names.
+// The effects of the operators of records and witnesses on the records: the functions of the Rust
+// under their names.
 ghost use Prim.Native.Nat.{_+_};
 ghost use Rattle.definition.specs.Base.{bytes};
 ghost use Rattle.definition.specs.Enums as Enums;

@@ -1,4 +1,4 @@
--- The table, and one word more. Assumes nothing.
+-- The table, and one more word. Assumes nothing.
 use mathlib.Core.Path.{_≡_, refl, sym}
 use mathlib.Core.Bool.{true, false, _&&_, and-false}
 use mathlib.Core.List.{List, [], _∷_, _++_}
@@ -28,7 +28,7 @@ length-words-of text s l (suc n) =
 pub table-length : (text : Text) (w : Words) → w .count ≡ length (table text w)
 table-length text w = sym (length-words-of text (w .starts) (w .lengths) (w .count))
 
--- what is stored behind the words does not change them
+-- what is stored after the words does not change them
 words-of-set : (text : Text) (s l : List ℕ) (i a b n : ℕ) → n ≤ i → words-of text (set s i a) (set l i b) n ≡ words-of text s l n
 unfolding words-of
 words-of-set text s l i a b zero h = refl
@@ -60,7 +60,7 @@ module _ (n : ℕ) where
   unfolding keep-count
   count-left ws e = rw (keep-count, e)
 
--- the table with a word behind its words
+-- the table with one more word after its words
 abbrev pub stored : Words → ℕ → ℕ → Words
 stored w start end = record { starts = set (w .starts) (w .count) start; lengths = set (w .lengths) (w .count) (end - start); count = w .count + 1 }
 

@@ -30,7 +30,7 @@ sized-stored {w} start end z = record { starts = length-set (w .starts) (w .coun
 pub kept-room : (b : Bool) (n : ℕ) {count : ℕ} → (b && (leb 2 n && ltb count 26)) ≡ true → count < 26
 kept-room b n {count} q = ltb-true count 26 (and-eq-true-iff (leb 2 n) (ltb count 26) .0 (and-eq-true-iff b (leb 2 n && ltb count 26) .0 q .1) .1)
 
--- behind the `if` of a turn: a word has ended, or none; it is kept, or not
+-- after the `if` of a turn: a word has ended, or none; it is kept, or not
 module _ (text : Text) (start at : ℕ) (known : Words) where
   abbrev pub Behind : Bool → Words → Type 0
   Behind b after = Holds text (if b then keep (part text start at) (table text known) else table text known) known after
@@ -65,7 +65,7 @@ module _ (start at known : ℕ) where
   count-open e = subst (λ (b : Bool). CountBehind b known) (sym e) (record { is = refl; more = omega arith })
 
 module _ (text : Text) (from to : ℕ) where
-  -- the words of the bytes before `at` are known, but for the one that is open from `start`
+  -- the words of the bytes before `at` are known, except for the one that is open from `start`
   pub record Noting (w known : Words) (start previous at : ℕ) : Type 0 where
     pub opened : start ≤ at
     pub within : at ≤ to

@@ -66,7 +66,7 @@ module _ (p c : ℕ) (t : Text) where
   count-grows zero ws h e k = absurd (omega arith)
   count-grows (suc n) ws h e k = rw (count-words-from, e, k)
 
--- at the end the word that is open ends; none is open: none is kept
+-- at the end the open word ends; if none is open, none is kept
 pub note-end : (word : Name) (p : ℕ) (ws : List Name) → note-words-from word p [] ws ≡ keep word ws
 unfolding note-words-from keep
 note-end [] p ws = refl
@@ -91,7 +91,7 @@ pub no-capital : (a b : Bool) → b ≡ false → (not a && b) ≡ false
 no-capital true b e = refl
 no-capital false b e = e
 
--- what stands behind `_` is no capital
+-- what follows `_` is not a capital
 pub past-capitals : (b : ℕ) → 95 < b → upper b ≡ false
 past-capitals b h =
     let l : 90 < b = omega arith in

@@ -1,4 +1,4 @@
--- The word table: what its numbers say of a text (01, "Words"). Assumes nothing.
+-- The word table: what its numbers say about a text (01, "Words"). Assumes nothing.
 use mathlib.Core.Path.{_≡_}
 use mathlib.Core.List.{List, [], _∷_, _++_}
 use Prim.Native.Nat.{ℕ, zero, suc, _+_, _-_, _≤_, _<_}
@@ -15,12 +15,12 @@ use Rattle.words.specs.declared.Boundary.{Boundary}
 abbrev pub word-of : Text → (starts lengths : List ℕ) → ℕ → Name
 word-of text starts lengths i = take (getD lengths i 0) (drop (getD starts i 0) text)
 
--- so many words, in order
+-- that many words, in order
 unfoldable pub words-of : Text → (starts lengths : List ℕ) → ℕ → List Name
 words-of text starts lengths zero = []
 words-of text starts lengths (suc n) = words-of text starts lengths n ++ (word-of text starts lengths n ∷ [])
 
--- the table of two arrays and a count that are lent
+-- the table of two lent arrays and a count
 abbrev pub lent : (starts lengths : List ℕ) → ℕ → Words
 lent starts lengths known = record { starts = starts; lengths = lengths; count = known }
 
@@ -39,8 +39,9 @@ pub record Holds (text : Text) (words : List Name) (w r : Words) : Type 0 where
   pub fitting : Fitting text r
   pub more : w .count ≤ r .count
 
--- The byte b stands at a place, after the byte previous, and the word that is open there begins at start (at the place: none is open).
--- Behind b the word that is open begins at r .start, and the one before it has ended if r .ended
+-- The byte b is at a place, after the byte previous, and the open word there begins at start (at
+-- the place: none is open). After b the open word begins at r .start, and the one before it has
+-- ended if r .ended
 pub record Turns (start at previous b : ℕ) (r : Boundary) : Type 0 where
   pub least : start ≤ r .start
   pub most : r .start ≤ at + 1

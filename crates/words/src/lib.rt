@@ -55,13 +55,14 @@ fn is_kept(ended: bool, count: usize, start: usize, at: usize) -> bool
     count < 26
 }
 
-// What a byte does to the word that is open.
+// The effect of a byte on the open word.
 struct Boundary {
     pub ended: bool,
     pub start: usize,
 }
 
-// The turn of the loops below: the byte b at a place, after the byte `previous`; the word that is open begins at `start`.
+// One turn of the loops below: the byte b at a place, after the byte `previous`. The open word
+// begins at `start`.
 fn turn(start: usize, at: usize, previous: u8, b: u8) -> Boundary
     requires { ⌜ (start ≤ at) × (at < 65535) ⌝ }
     ensures { λ r. ⌜ Turns start at previous b r ⌝ }
@@ -78,7 +79,7 @@ fn turn(start: usize, at: usize, previous: u8, b: u8) -> Boundary
             start: at + 1,
         };
     }
-    // no capital and no `_`: most bytes
+    // neither a capital nor `_`: most bytes
     if 95 < b {
         return Boundary {
             ended: false,
@@ -109,7 +110,8 @@ fn turn(start: usize, at: usize, previous: u8, b: u8) -> Boundary
     }
 }
 
-// The words of text[from..to], behind those of the table. A word is stored at two places here, and not by a function: the table would be copied for it.
+// Appends the words of text[from..to] to the table. A word is stored at two places in this code,
+// not by a function, because the table would be copied for the call.
 pub fn note_words(text: &[u8], from: usize, to: usize, w: Words) -> Words
     requires { ⌜ (from ≤ to) × ((to ≤ length (now text)) × ((length (now text) ≤ 65535) × Fitting (now text) w)) ⌝ }
     ensures { λ r. ⌜ Holds (now (text .entry)) (W.note-words (part (now (text .entry)) from to) (table (now (text .entry)) w)) w r ⌝ }
@@ -140,7 +142,7 @@ pub fn note_words(text: &[u8], from: usize, to: usize, w: Words) -> Words
     known
 }
 
-// One word more, where only their number is known.
+// Counts one more word, where only the number of words is known.
 fn keep_count(known: usize, start: usize, end: usize) -> usize
     requires { ⌜ start ≤ end ⌝ }
     ensures { λ r. ⌜ (r ≡ C.keep-count (end - start) known) × (known ≤ r) ⌝ }
@@ -151,7 +153,7 @@ fn keep_count(known: usize, start: usize, end: usize) -> usize
     known
 }
 
-// How many words are known behind text[from..to].
+// Returns how many words are known after text[from..to].
 pub fn count_words(text: &[u8], from: usize, to: usize, count: usize) -> usize
     requires { ⌜ (from ≤ to) × ((to ≤ length (now text)) × (length (now text) ≤ 65535)) ⌝ }
     ensures { λ r. ⌜ (r ≡ C.count-words-from 0 0 (part (now (text .entry)) from to) count) × (count ≤ r) ⌝ }

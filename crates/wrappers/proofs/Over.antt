@@ -51,7 +51,7 @@ pub over-refused : (want : ℕ → Bool) (c : Node → Node) {w : List ℕ} {N :
 unfolding number
 over-refused want c h = record { runs = λ nm m i k. ap (λ y. and-then y (λ x. push (c x))) (h nm full-spare m k); past = λ i l. refl; long = refl }
 
--- WRAPPED: a wrap, and then what an operator does
+-- WRAPPED: a wrap, and then the effect of an operator
 pub wrapped-then : (f : Performed) {w w′ : List ℕ} {N : ℕ} {st u : State} (r : Step) → WrapsTo w N st u → Operates f w w′ N u r → Operates (λ s. M.wrap >> f s) w w′ N st r
 wrapped-then f (Step.Done v) t o = record {
   runs = λ nm m i h.

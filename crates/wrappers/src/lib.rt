@@ -19,7 +19,7 @@ use records::Fields;
 use records::Popped;
 use records::State;
 
-// A node of a kind over the node that is wanted on top.
+// Pushes a node of a kind over the node that is wanted on top.
 pub fn one_child(ws: &mut [u32], n: usize, st: State, want: Want, kind: u32) -> Step
     requires { ⌜ Ready (now ws) n st full-spare ⌝ }
     ensures { λ r. ⌜ ((c : Node → Node) → OneChild kind c → Operates (over (want-of want) c) (now (ws .entry)) (now (ws .exit)) n st r) ⌝ }
@@ -40,7 +40,7 @@ pub fn one_child(ws: &mut [u32], n: usize, st: State, want: Want, kind: u32) -> 
     }
 }
 
-// One wrap more, and a node of a kind over the type on top.
+// Counts one wrap, and pushes a node of a kind over the type on top.
 pub fn wrapped(ws: &mut [u32], n: usize, st: State, kind: u32) -> Step
     requires { ⌜ Ready (now ws) n st full-spare ⌝ }
     ensures { λ r. ⌜ ((c : Node → Node) → OneChild kind c → Operates (λ _. R.wrapped c) (now (ws .entry)) (now (ws .exit)) n st r) ⌝ }

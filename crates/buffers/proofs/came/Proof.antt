@@ -11,7 +11,7 @@ use Rattle.buffers.proofs.came.Tie as tie
 use Rattle.buffers.proofs.came.Reads as reads
 use Rattle.buffers.proofs.came.Lts as lts
 
--- the answer of an arm is the definition's of what was got
+-- the result of an arm is the definition's for what was read
 pub arm : (b : State) {x y : Got} {r : State} → x ≡ y → r ≡ after-read b y → r ≡ after-read b x
 arm b {r = r} e h = subst (λ (z : Got). r ≡ after-read b z) (sym e) h
 

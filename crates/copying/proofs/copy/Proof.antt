@@ -1,4 +1,4 @@
--- `output::copy` meets its contract. Assumes nothing.
+-- `copying::copy` meets its contract. Assumes nothing.
 use mathlib.Core.Path.{_≡_, refl, sym, ap, _∙_}
 use Prim.Native.Nat.{ℕ, _+_, _-_, _≤_, _<_}
 use native.Mathlib.Omega.{arith}

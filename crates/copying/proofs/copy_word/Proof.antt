@@ -1,4 +1,4 @@
--- `output::copy_word` meets its contract. Assumes nothing.
+-- `copying::copy_word` meets its contract. Assumes nothing.
 use mathlib.Core.Path.{ap, _∙_}
 use native.Mathlib.Omega.{arith}
 use lib.ListN.{length, take, drop}

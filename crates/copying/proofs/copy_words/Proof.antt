@@ -1,4 +1,5 @@
--- `output::copy_words` meets its contract: after each turn the text up to i is copied, and the last eight bytes complete it. Assumes nothing.
+-- `copying::copy_words` meets its contract: after each turn the text up to i is copied, and the
+-- last eight bytes complete it. Assumes nothing.
 use mathlib.Core.Path.{_≡_, refl, _∙_}
 use Prim.Native.Nat.{_+_, _-_, _≤_}
 use native.Mathlib.Omega.{arith}

@@ -1,4 +1,4 @@
--- `answers::counts` meets its contract. Assumes nothing.
+-- `endings::counts` meets its contract. Assumes nothing.
 use mathlib.Core.Path.{refl}
 use Rattle.endings.proofs.counts.Statement.{statement}
 use Rattle.endings.proofs.counts.Tie as tie

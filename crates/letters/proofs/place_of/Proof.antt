@@ -1,4 +1,5 @@
--- `letters::place_of` meets its contract. The loop's invariant: what is left is searched from `i` on. Assumes nothing.
+-- `letters::place_of` meets its contract. The loop invariant: what is left is searched from `i` on.
+-- Assumes nothing.
 use mathlib.Core.Path.{_≡_}
 use Prim.Native.Nat.{_+_, _-_, _≤_}
 use native.Mathlib.Omega.{arith}

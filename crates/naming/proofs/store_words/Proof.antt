@@ -1,4 +1,5 @@
--- `naming::store_words` meets its contract: storing the bytes that are left at the place that was reached gives what storing all gives. Assumes nothing.
+-- `naming::store_words` meets its contract: storing the remaining bytes at the place reached has
+-- the same result as storing all. Assumes nothing.
 use mathlib.Core.Path.{_≡_, refl, ap, _∙_}
 use mathlib.Core.List.{List}
 use Prim.Native.Nat.{ℕ, _+_, _*_, _-_, _≤_}

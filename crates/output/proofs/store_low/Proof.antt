@@ -1,4 +1,5 @@
--- `output::store_low` meets its contract: storing what is left of the word at the place that was reached gives what storing all gives. Assumes nothing.
+-- `output::store_low` meets its contract: storing the rest of the word at the place reached has the
+-- same result as storing all. Assumes nothing.
 use mathlib.Core.Path.{_≡_, refl, sym, _∙_}
 use Prim.Native.Nat.{_+_, _-_, _≤_}
 use native.Mathlib.Omega.{arith}

@@ -1,4 +1,5 @@
--- `signatures::generic_signature` meets its contract: the loop's invariant is what is left to count. Assumes nothing.
+-- `signatures::generic_signature` meets its contract: the loop invariant is what is left to count.
+-- Assumes nothing.
 use mathlib.Core.Path.{_≡_, refl, ap, _∙_}
 use Prim.Native.Nat.{ℕ, suc, _-_}
 use lib.ListN.{drop}

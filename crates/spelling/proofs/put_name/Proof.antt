@@ -11,7 +11,7 @@ use Rattle.spelling.proofs.Loops.{taken-part, taken-end, plain-put, pla
 use Rattle.spelling.proofs.put_name.Statement.{statement}
 use Rattle.spelling.proofs.put_name.Tie as tie
 
--- the bytes behind the length
+-- the bytes after the length
 taken : (c : tie.After-from) → Taken (of-length false false (natural (drop (c .before .before .before .before .before .before .before .before .args .p) (c .before .before .before .before .before .before .before .before .args .text .now)))) (c .before .before .before .before .before .before .before .before .args .text .now) (c .before .before .before .before .before .before .before .before .args .p + 1) false (c .from .given .0 .0) (c .from .given .0 .1 .0) (c .from .given .0 .1 .1 .0)
 taken c = taken-part (c .before .before .before .before .before .before .before .before .args .text .now) (c .before .before .before .before .before .before .before .before .args .p + 1) false (c .from .given .1) (c .before .before .of-length .ensures)
 

@@ -20,7 +20,7 @@ use native.Mathlib.Omega.{arith}
 use Rattle.standard_types.proofs.standard_type.Statement.{statement}
 use Rattle.standard_types.proofs.standard_type.Tie as tie
 
--- the place is one in the definition's table
+-- the index is one in the definition's table
 placed : (c : tie.After-place-of) → c .place-of .result ≡ place (c .before .before .args .b) (letters standard-types)
 unfolding opened₀ letters
 placed c = c .place-of .ensures

@@ -12,7 +12,7 @@ Inv-loop text from to count known₀ start₀ previous₀ at₀ known start prev
 abbrev μ-loop : tie.MeasureT-loop
 μ-loop text from to count known₀ start₀ previous₀ at₀ known start previous at = to - at
 
--- what is known behind the `if`
+-- what is known after the `if`
 after : (c : tie.Joined1 Inv-loop μ-loop) → CountBehind (c .before .before .before .before .loop .start) (c .before .before .before .before .loop .at) (c .before .before .before .before .loop .known) (c .before .turn .result .ended) (c .if1 .known)
 after c =
     ⊎-elim

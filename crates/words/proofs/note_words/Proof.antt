@@ -20,7 +20,7 @@ abbrev μ-loop : tie.MeasureT-loop
 inside : (c : tie.In-loop Inv-loop μ-loop) → c .before .loop .at ≤ length (c .before .before .before .args .text .now)
 inside c = omega (arith, c .loop-test .taken, c .before .before .before .pre .1 .0)
 
--- what is known behind the `if` of a turn
+-- what is known after the `if` of a turn
 after : (c : tie.Joined1 Inv-loop μ-loop) → Behind (c .before .before .before .before .before .before .before .args .text .now) (c .before .before .before .before .before .loop .start) (c .before .before .before .before .before .loop .at) (c .before .before .before .before .before .loop .known) (c .before .before .turn .result .ended) (c .if1 .known) × Sized (c .if1 .known)
 after c =
     ⊎-elim

@@ -2,7 +2,7 @@ use native.Mathlib.Omega.{arith}
 use Rattle.words.specs.Table.{lent}
 use Rattle.naming.specs.Naming.{naming}
 use Rattle.printing.proofs.CycleLaws.{puts-by, placed, Rowing, rowing-first, rowing-piece, rowing-next, rowing-past, rowing-end}
--- The answers of print.
+-- The results of print.
 use Prim.Native.Nat.{ℕ}
 use Rattle.printing.proofs.print.Reads as print
 use Rattle.printing.proofs.+print+print_behind+print_cell+print_cells+print_params+print_plain+print_signed.Lts-print as print-lts

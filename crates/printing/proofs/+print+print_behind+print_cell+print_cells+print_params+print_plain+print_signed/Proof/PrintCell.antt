@@ -1,6 +1,6 @@
 use native.Mathlib.Omega.{arith}
 use Rattle.printing.proofs.CycleLaws.{celled-label, celled-below, celled-prints, celled-puts, world-below}
--- The answers of print-cell.
+-- The results of print-cell.
 use Prim.Native.Nat.{ℕ, _<_}
 use Rattle.printing.proofs.print.Reads as print
 use Rattle.printing.proofs.print_cell.Reads as print-cell

@@ -3,7 +3,7 @@ use Prim.Native.Nat.{_-_, ℕ, _<_}
 use Rattle.words.specs.Table.{lent}
 use Rattle.naming.specs.Naming.{naming}
 use Rattle.printing.proofs.CycleLaws.{Celling, celling-first, cell-below, cell-some, labels-some, celling-next, celling-past, celling-end, world-below}
--- The answers of print-cells.
+-- The results of print-cells.
 use Rattle.printing.proofs.print_cell.Reads as print-cell
 use Rattle.printing.proofs.print_cells.Reads as print-cells
 use Rattle.printing.proofs.+print+print_behind+print_cell+print_cells+print_params+print_plain+print_signed.Lts-print_cells as print-cells-lts

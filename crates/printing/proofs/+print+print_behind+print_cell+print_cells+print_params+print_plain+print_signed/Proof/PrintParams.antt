@@ -2,7 +2,7 @@ use native.Mathlib.Omega.{arith}
 use Rattle.words.specs.Table.{lent}
 use Rattle.naming.specs.Naming.{naming}
 use Rattle.printing.proofs.CycleLaws.{puts-text, params-empty, tuple-some, list-fits, tuple-puts, other-label, other-prints, other-puts}
--- The answers of print-params.
+-- The results of print-params.
 use Prim.Native.Nat.{ℕ}
 use Rattle.printing.proofs.print.Reads as print
 use Rattle.printing.proofs.print_cells.Reads as print-cells

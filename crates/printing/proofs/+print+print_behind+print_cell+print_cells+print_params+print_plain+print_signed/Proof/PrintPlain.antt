@@ -6,7 +6,7 @@ use Rattle.words.specs.Table.{lent}
 use Rattle.naming.specs.Naming.{naming}
 use Rattle.records.specs.Holds.{Named}
 use Rattle.printing.proofs.CycleLaws.{puts-by, puts-text, prints-at, name-alone, world-below, child-at, labels-reach, printing-to, listed-to, list-fits}
--- The answers of print-plain.
+-- The results of print-plain.
 use Rattle.printing.proofs.print.Reads as print
 use Rattle.printing.proofs.print_cells.Reads as print-cells
 use Rattle.printing.proofs.print_params.Reads as print-params
