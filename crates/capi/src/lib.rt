@@ -3,8 +3,8 @@
 // charged total, wraps, and the length of what was written.
 ghost use lib.ListN.{length};
 ghost use Rattle.definition.specs.Reading as Reading;
-ghost use Rattle.endings.specs.Calls.{Scratch};
-ghost use Rattle.values.specs.Told.{Told};
+ghost use Rattle.call_endings.specs.Workspace.{Scratch};
+ghost use Rattle.call_values.specs.Stored.{Told};
 
 // Reads a symbol.
 #[no_mangle]
@@ -18,7 +18,7 @@ pub extern "C" fn cepruvels_demangle(
     ensures { λ _. ⌜ Told (Reading.demangle (now (text .entry)) ceiling (length (now (workspace .entry))) (length (now (out .entry)))) (now (out .entry)) (now (out .exit)) (now (answer .exit)) × Scratch 64 ceiling ((Reading.demangle (now (text .entry)) ceiling (length (now (workspace .entry))) (length (now (out .entry)))) .values .number) (now (workspace .entry)) (now (workspace .exit)) ⌝ }
 {
     let a = swift_demangle::demangle(text, ceiling, workspace, out);
-    *answer = values::numbers(a);
+    *answer = call_values::numbers(a);
 }
 
 // Reads a type.
@@ -33,7 +33,7 @@ pub extern "C" fn cepruvels_demangle_type(
     ensures { λ _. ⌜ Told (Reading.demangle-type (now (text .entry)) ceiling (length (now (workspace .entry))) (length (now (out .entry)))) (now (out .entry)) (now (out .exit)) (now (answer .exit)) × Scratch 64 ceiling ((Reading.demangle-type (now (text .entry)) ceiling (length (now (workspace .entry))) (length (now (out .entry)))) .values .number) (now (workspace .entry)) (now (workspace .exit)) ⌝ }
 {
     let a = swift_demangle::demangle_type(text, ceiling, workspace, out);
-    *answer = values::numbers(a);
+    *answer = call_values::numbers(a);
 }
 
 // Reads a symbol's first k operators.
@@ -49,7 +49,7 @@ pub extern "C" fn cepruvels_demangle_stopped(
     ensures { λ _. ⌜ Told (Reading.demangle-stopped (now (text .entry)) ceiling k (length (now (workspace .entry))) (length (now (out .entry)))) (now (out .entry)) (now (out .exit)) (now (answer .exit)) × Scratch 64 ceiling ((Reading.demangle-stopped (now (text .entry)) ceiling k (length (now (workspace .entry))) (length (now (out .entry)))) .values .number) (now (workspace .entry)) (now (workspace .exit)) ⌝ }
 {
     let a = swift_demangle::demangle_stopped(text, ceiling, k, workspace, out);
-    *answer = values::numbers(a);
+    *answer = call_values::numbers(a);
 }
 
 // Reads a type's first k operators.
@@ -65,5 +65,5 @@ pub extern "C" fn cepruvels_demangle_type_stopped(
     ensures { λ _. ⌜ Told (Reading.demangle-type-stopped (now (text .entry)) ceiling k (length (now (workspace .entry))) (length (now (out .entry)))) (now (out .entry)) (now (out .exit)) (now (answer .exit)) × Scratch 64 ceiling ((Reading.demangle-type-stopped (now (text .entry)) ceiling k (length (now (workspace .entry))) (length (now (out .entry)))) .values .number) (now (workspace .entry)) (now (workspace .exit)) ⌝ }
 {
     let a = swift_demangle::demangle_type_stopped(text, ceiling, k, workspace, out);
-    *answer = values::numbers(a);
+    *answer = call_values::numbers(a);
 }

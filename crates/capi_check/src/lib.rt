@@ -4,9 +4,9 @@
 ghost use mathlib.Core.Path.{_≡_};
 ghost use lib.ListN.{length};
 ghost use Rattle.definition.specs.Check as Check;
-ghost use Rattle.endings.specs.Calls.{Scratch};
-ghost use Rattle.values.specs.Six.{six};
-ghost use Rattle.values.specs.Told.{Told};
+ghost use Rattle.call_endings.specs.Workspace.{Scratch};
+ghost use Rattle.call_values.specs.Six.{six};
+ghost use Rattle.call_values.specs.Stored.{Told};
 
 // Checks the shape of a symbol.
 #[no_mangle]
@@ -19,7 +19,7 @@ pub extern "C" fn cepruvels_shape(
     ensures { λ _. ⌜ (now (answer .exit) ≡ six ((Check.shape (now (text .entry)) ceiling (length (now (workspace .entry)))) .values)) × Scratch 8 ceiling ((Check.shape (now (text .entry)) ceiling (length (now (workspace .entry)))) .values .number) (now (workspace .entry)) (now (workspace .exit)) ⌝ }
 {
     let a = swift_shape::shape(text, ceiling, workspace);
-    *answer = values::numbers(a);
+    *answer = call_values::numbers(a);
 }
 
 // Checks the shape of a type.
@@ -33,7 +33,7 @@ pub extern "C" fn cepruvels_shape_type(
     ensures { λ _. ⌜ (now (answer .exit) ≡ six ((Check.shape-type (now (text .entry)) ceiling (length (now (workspace .entry)))) .values)) × Scratch 8 ceiling ((Check.shape-type (now (text .entry)) ceiling (length (now (workspace .entry)))) .values .number) (now (workspace .entry)) (now (workspace .exit)) ⌝ }
 {
     let a = swift_shape::shape_type(text, ceiling, workspace);
-    *answer = values::numbers(a);
+    *answer = call_values::numbers(a);
 }
 
 // Checks a symbol's first k operators.
@@ -49,7 +49,7 @@ pub extern "C" fn cepruvels_shape_stopped(
     ensures { λ _. ⌜ Told (Check.shape-stopped (now (text .entry)) ceiling k (length (now (workspace .entry))) (length (now (out .entry)))) (now (out .entry)) (now (out .exit)) (now (answer .exit)) × Scratch 8 ceiling ((Check.shape-stopped (now (text .entry)) ceiling k (length (now (workspace .entry))) (length (now (out .entry)))) .values .number) (now (workspace .entry)) (now (workspace .exit)) ⌝ }
 {
     let a = swift_shape::shape_stopped(text, ceiling, k, workspace, out);
-    *answer = values::numbers(a);
+    *answer = call_values::numbers(a);
 }
 
 // Checks a type's first k operators.
@@ -65,5 +65,5 @@ pub extern "C" fn cepruvels_shape_type_stopped(
     ensures { λ _. ⌜ Told (Check.shape-type-stopped (now (text .entry)) ceiling k (length (now (workspace .entry))) (length (now (out .entry)))) (now (out .entry)) (now (out .exit)) (now (answer .exit)) × Scratch 8 ceiling ((Check.shape-type-stopped (now (text .entry)) ceiling k (length (now (workspace .entry))) (length (now (out .entry)))) .values .number) (now (workspace .entry)) (now (workspace .exit)) ⌝ }
 {
     let a = swift_shape::shape_type_stopped(text, ceiling, k, workspace, out);
-    *answer = values::numbers(a);
+    *answer = call_values::numbers(a);
 }

@@ -2,8 +2,8 @@
 -- on a smaller argument. No loop is cut off by it: any two bounds that are large enough give the
 -- same result (`..-bound`, one law for each loop; each says what a round takes), and those that the
 -- definition gives are large enough (`..-any`, `rounds-enough`). The law for `turns` is in
--- proofs/WholeRuns, the law for the letters of `A` in crate `substitutions` (proofs/ChainLaws
--- `letters-chain`, `letters-are`).
+-- proofs/WholeRuns, the law for the letters of `A` in crate `operator_substitutions`
+-- (proofs/ChainLaws `letters-chain`, `letters-are`).
 use mathlib.Core.Path.{_≡_, refl, sym, ap, subst}
 use mathlib.Core.Bool.{Bool, true, false, _&&_, not}
 use mathlib.Core.List.{List, [], _∷_, _++_}

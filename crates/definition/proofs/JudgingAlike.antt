@@ -57,7 +57,7 @@ module _ (N : ℕ) where
 
   turn-sim : (t : Text) → Sim {A = Text} Any itself (turn N (R.one N) t) (turn N (C.one N) t)
   unfolding turn
-  turn-sim t = bind _ _ (spend-sim B.step) λ _ _. bind _ _ (spend-sim (B.charge N 1)) λ _ _. one-sim t
+  turn-sim t = bind _ _ (spend-sim B.step) λ _ _. bind _ _ (spend-sim _) λ _ _. one-sim t
 
   -- what holds for the machine at the end of a run
   abbrev pub InvEnd : End Demangler → Type 0

@@ -187,7 +187,7 @@ module _ (N : ℕ) where
   plain-function-sim =
       bind _ _ (try-sim (eqb K.generic-signature)) λ o g. function-type-then _ _ λ p r th asy.
       bind _ _ (under-signature-sim o (FunctionType p r th asy) 0 (tt, tt)) λ ty u. labels-then ty _ (u .arity-is ∙ params-by-entry p) _ _ λ ls.
-      bind _ _ pop-name-sim λ name _. bind _ _ context-sim λ c _. leave-sim _ _ (Function c name ls ty) (tt, tt) refl (omega (arith, u .size-is)) refl
+      bind _ _ pop-name-sim λ name _. bind _ _ context-sim λ c _. leave-sim _ _ (Function c name _ ty) (tt, tt) refl (omega (arith, u .size-is)) refl
 
   initializer-sim : (allocating : Bool) → Alike (R.initializer allocating) (run-row N (row (Op.initializer allocating)))
   unfolding R.initializer R.try-signature R.arity-of run-row row C.taking C.add-labelled kind size count view

@@ -88,9 +88,9 @@ choose-late table [] = ok (bad 9) []
 choose-late table (c ∷ t) = ok (given (pick c table) (bad 9) good) t
 
 -- Lines 880 to 900, with line 907 for the number of copies. The list is what is copied so far. f
--- bounds the letters and is reached only if no text is left, because each takes a byte (`letters-are`
--- in crates/operator_substitutions/proofs/ChainLaws). After `A` a lower case letter continues and a
--- capital ends; `A_` is 26, `An_` is n + 27
+-- bounds the letters and is reached only if no text is left, because each takes a byte
+-- (`letters-are` in crates/operator_substitutions/proofs/ChainLaws). After `A` a lower case letter
+-- continues and a capital ends; `A_` is 26, `An_` is n + 27
 unfoldable pub substitutions-from : ℕ → Option ℕ → List Substitution → Lex Operator
 substitutions-from zero repeat done t = ok (substitutions done (bad 9)) t
 substitutions-from (suc f) repeat done [] = ok (substitutions done (bad 9)) []

@@ -8,7 +8,7 @@ use borrow.Author.Tests.{ne-eqb}
 use lib.Dec.{eqb}
 use lib.ListN.{length, length-append}
 use Rattle.definition.specs.Text.{Text}
-use Rattle.line_ends.specs.Ends.{newline}
+use Rattle.line_forms.specs.LineEnds.{newline}
 use Rattle.line_forms.specs.Lines.{last-answer, answers-from, answers, Clear, after-line, owed}
 
 clear-tail : (c : ℕ) (t : Text) → Clear (c ∷ t) → Clear t

@@ -6,7 +6,7 @@ use native.Mathlib.Omega.{arith}
 use lib.ListN.{length}
 use Rattle.definition.specs.Base.{decimal}
 use Rattle.definition.specs.declared.Counts.{Counts}
-use Rattle.output.specs.Sink.{Wrote, wrote-is, wrote-then}
+use Rattle.text_output.specs.Sink.{Wrote, wrote-is, wrote-then}
 use Rattle.line_forms.specs.Appends.{longest, Space, Appends}
 use Rattle.line_forms.specs.Lines.{field, refused-line, accepted-line, counts-told}
 use Rattle.line_forms.proofs.Sizes.{refused-short, counts-short}

@@ -8,7 +8,7 @@ use borrow.Author.Tests.{ltb-true, ltb-false}
 use lib.Dec.{ltb}
 use lib.ListN.{length, length-append}
 use Rattle.definition.specs.Base.{decimal}
-use Rattle.numerals.proofs.Digits.{one-digit, more-digits}
+use Rattle.print_numerals.proofs.Digits.{one-digit, more-digits}
 use Rattle.line_forms.specs.Lines.{field, refused-line, accepted-line, counts-told}
 
 -- 10 to the power of k

@@ -2,7 +2,7 @@
 use mathlib.Core.List.{List}
 use Prim.Native.Nat.{ℕ, _+_, _≤_, _<_, _^_}
 use lib.ListN.{length}
-use Rattle.output.specs.Sink.{Wrote}
+use Rattle.text_output.specs.Sink.{Wrote}
 
 -- an answer line has at most `=`, a tab, 16,384 bytes of text and a newline
 abbrev pub longest : ℕ

@@ -11,7 +11,7 @@ use Rattle.definition.specs.Text.{Text}
 use Rattle.definition.specs.Calls.{Values, Answer}
 use Rattle.definition.specs.Reading.{demangle}
 use Rattle.definition.specs.Check.{shape}
-use Rattle.line_ends.specs.Ends.{newline}
+use Rattle.line_forms.specs.LineEnds.{newline}
 use Rattle.line_forms.specs.declared.Asked.{Asked}
 use Rattle.line_forms.specs.declared.Asked.the-variants as Asked
 

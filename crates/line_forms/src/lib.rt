@@ -1,10 +1,14 @@
 // The forms of an answer line of the programs `names` and `shapes` (specs/Lines.antt).
-ghost use Rattle.output.specs.Sink.{Room, Wrote};
+
+// Where a line ends.
+pub mod ends;
+
+ghost use Rattle.text_output.specs.Sink.{Room, Wrote};
 ghost use Rattle.line_forms.specs.Lines.{field, refused-line, accepted-line, counts-told};
 ghost use Rattle.line_forms.specs.Appends.{Space, Appends};
 use definition::Counts;
-use numerals::put_decimal;
-use output::put_byte;
+use print_numerals::put_decimal;
+use text_output::put_byte;
 
 // The longest line that is read.
 pub const LINE: usize = 4096;

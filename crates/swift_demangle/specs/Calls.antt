@@ -5,9 +5,9 @@ use Rattle.definition.specs.Calls as Calls
 use Rattle.definition.specs.Calls.{within, admit, reading-needs}
 use Rattle.definition.specs.Reading as Reading
 use Rattle.definition.specs.Reading.{stopped-after}
-use Rattle.runs.specs.Ends.{kinds-of}
-use Rattle.runs.specs.declared.Final.{Final}
-use Rattle.admission.specs.Admits.{framed}
+use Rattle.machine.specs.RunEnds.{kinds-of}
+use Rattle.machine.specs.declared.runs.Final.{Final}
+use Rattle.call_admission.specs.Admits.{framed}
 
 abbrev pub read-whole : Final → Text → (N workspace out : ℕ) → Calls.Answer
 read-whole what t N workspace out = within out (admit reading-needs N workspace t (framed what t (Reading.whole N (kinds-of what))))

@@ -1,22 +1,26 @@
 // The calls of the reading for users: a symbol or a type, whole or stopped after k operators. They
 // have no `requires`: every text, ceiling, k and slice is answered as the definition answers it.
+
+// The run over a text's body, and the answer at its end.
+pub mod body;
+
 ghost use lib.ListN.{length};
 ghost use Rattle.definition.specs.Reading as Reading;
 ghost use Rattle.definition.specs.Enums as Enums;
-ghost use Rattle.endings.specs.Answers.{Answers};
-ghost use Rattle.endings.specs.Calls.{Scratch};
+ghost use Rattle.call_endings.specs.Answers.{Answers};
+ghost use Rattle.call_endings.specs.Workspace.{Scratch};
 ghost use Rattle.swift_demangle.specs.Calls.{read-whole, read-stopped};
-use admission::Admitted;
+use call_admission::Admitted;
 use definition::Answer;
-use runs::Final;
+use machine::runs::Final;
 
 // A symbol or a type, given by what it is: the checks before a run, then the run
 
 fn read(text: &[u8], what: Final, ceiling: usize, workspace: &mut [u32], out: &mut [u8]) -> Answer
     ensures { λ r. ⌜ Answers (read-whole what (now (text .entry)) ceiling (length (now (workspace .entry))) (length (now (out .entry)))) (now (out .entry)) (now (out .exit)) r × Scratch 64 ceiling (Enums.values r .number) (now (workspace .entry)) (now (workspace .exit)) ⌝ }
 {
-    match admission::admit(text, what, ceiling, 64, workspace.len()) {
-        Admitted::Body(start, end) => answers::read_body(
+    match call_admission::admit(text, what, ceiling, 64, workspace.len()) {
+        Admitted::Body(start, end) => crate::body::read_body(
             text,
             start,
             end,
@@ -39,8 +43,8 @@ fn read_stopped(
 ) -> Answer
     ensures { λ r. ⌜ Answers (read-stopped what (now (text .entry)) ceiling k (length (now (workspace .entry))) (length (now (out .entry)))) (now (out .entry)) (now (out .exit)) r × Scratch 64 ceiling (Enums.values r .number) (now (workspace .entry)) (now (workspace .exit)) ⌝ }
 {
-    match admission::admit(text, what, ceiling, 64, workspace.len()) {
-        Admitted::Body(start, end) => answers::read_stopped_body(
+    match call_admission::admit(text, what, ceiling, 64, workspace.len()) {
+        Admitted::Body(start, end) => crate::body::read_stopped_body(
             text,
             start,
             end,

@@ -4,9 +4,9 @@ use Rattle.definition.specs.Text.{Text}
 use Rattle.definition.specs.Calls as Calls
 use Rattle.definition.specs.Calls.{within, admit, check-needs}
 use Rattle.definition.specs.Check as Check
-use Rattle.runs.specs.Ends.{kinds-of}
-use Rattle.runs.specs.declared.Final.{Final}
-use Rattle.admission.specs.Admits.{framed}
+use Rattle.machine.specs.RunEnds.{kinds-of}
+use Rattle.machine.specs.declared.runs.Final.{Final}
+use Rattle.call_admission.specs.Admits.{framed}
 
 abbrev pub check-whole : Final → Text → (N workspace : ℕ) → Calls.Answer
 check-whole what t N workspace = admit check-needs N workspace t (framed what t (Check.whole N (kinds-of what)))

@@ -1,24 +1,28 @@
 // The calls of the shape check for users: a symbol or a type, whole or stopped after k operators.
 // They have no `requires`: every text, ceiling, k and slice is answered as the definition answers
 // it.
+
+// The run over a text's body, and the answer at its end.
+pub mod body;
+
 ghost use mathlib.Core.Path.{_≡_};
 ghost use lib.ListN.{length};
 ghost use Rattle.definition.specs.Check as Check;
 ghost use Rattle.definition.specs.Enums as Enums;
-ghost use Rattle.endings.specs.Answers.{Answers};
-ghost use Rattle.endings.specs.Calls.{Scratch};
+ghost use Rattle.call_endings.specs.Answers.{Answers};
+ghost use Rattle.call_endings.specs.Workspace.{Scratch};
 ghost use Rattle.swift_shape.specs.Calls.{check-whole, check-stopped};
-use admission::Admitted;
+use call_admission::Admitted;
 use definition::Answer;
-use runs::Final;
+use machine::runs::Final;
 
 // A symbol or a type, given by what it is: the checks before a run, then the run
 
 fn check(text: &[u8], what: Final, ceiling: usize, workspace: &mut [u32]) -> Answer
     ensures { λ r. ⌜ (Enums.values r ≡ check-whole what (now (text .entry)) ceiling (length (now (workspace .entry))) .values) × Scratch 8 ceiling (Enums.values r .number) (now (workspace .entry)) (now (workspace .exit)) ⌝ }
 {
-    match admission::admit(text, what, ceiling, 8, workspace.len()) {
-        Admitted::Body(start, end) => check_answers::check_body(
+    match call_admission::admit(text, what, ceiling, 8, workspace.len()) {
+        Admitted::Body(start, end) => crate::body::check_body(
             text,
             start,
             end,
@@ -40,8 +44,8 @@ fn check_stopped(
 ) -> Answer
     ensures { λ r. ⌜ Answers (check-stopped what (now (text .entry)) ceiling k (length (now (workspace .entry))) (length (now (out .entry)))) (now (out .entry)) (now (out .exit)) r × Scratch 8 ceiling (Enums.values r .number) (now (workspace .entry)) (now (workspace .exit)) ⌝ }
 {
-    match admission::admit(text, what, ceiling, 8, workspace.len()) {
-        Admitted::Body(start, end) => check_answers::check_stopped_body(
+    match call_admission::admit(text, what, ceiling, 8, workspace.len()) {
+        Admitted::Body(start, end) => crate::body::check_stopped_body(
             text,
             start,
             end,

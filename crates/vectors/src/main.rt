@@ -13,8 +13,8 @@ ghost use lib.ListN.{length};
 mod readers;
 
 use definition::Answer;
-use text::Cursor;
-use text::Number;
+use text_cursor::Cursor;
+use text_cursor::Number;
 
 // A number of a case, and the place after the tab that follows it.
 struct Column {
@@ -50,34 +50,32 @@ fn put_number(x: u32) {
     io::print_decimal(1, x as u64);
 }
 
-// The six values of an answer.
-fn put_values(number: usize, place: usize, steps: usize, total: usize, wraps: usize, n: usize) {
-    put(number);
-    space();
-    put(place);
-    space();
-    put(steps);
-    space();
-    put(total);
-    space();
-    put(wraps);
-    space();
-    put(n);
-    io::write_all(1, b"\t");
+// The numbers with spaces between them.
+fn put_values(values: &[u64]) {
+    let mut i = 0;
+    while i < values.len() {
+        if 0 < i {
+            space();
+        }
+        io::print_decimal(1, values[i]);
+        i += 1;
+    }
 }
 
-// An answer's values; returns how much was written.
-fn put_answer(a: Answer) -> usize {
+// How much an answer says was written.
+fn written(a: Answer) -> usize {
     match a {
-        Answer::Accepted(c, n) => {
-            put_values(0, 0, c.steps, c.total, c.wraps, n);
-            n
-        }
-        Answer::Refused(r, place) => {
-            put_values(values::number(r), place, 0, 0, 0, 0);
-            0
-        }
+        Answer::Accepted(_, n) => n,
+        Answer::Refused(_, _) => 0,
     }
+}
+
+// The six values of an answer and a tab; returns how much was written.
+fn put_answer(a: Answer) -> usize {
+    let six = call_values::numbers(a);
+    put_values(&six);
+    io::write_all(1, b"\t");
+    written(a)
 }
 
 fn put_bytes(out: &[u8], n: usize) {
@@ -185,7 +183,7 @@ fn field(line: &[u8], at: usize) -> Column {
             };
         }
     }
-    match text::natural(line, Cursor { at }) {
+    match text_cursor::natural(line, Cursor { at }) {
         Number::Read(value, c) => {
             let end = c.at;
             if end < line.len() {
@@ -297,7 +295,7 @@ fn run_line(line: &[u8], ws: &mut [u32], bytes: &mut [u8], numbers: &mut [u32], 
 fn run_lines(all: &[u8], ws: &mut [u32], bytes: &mut [u8], numbers: &mut [u32], text: &mut [u8]) {
     let mut at = 0;
     while at < all.len() {
-        let end = line_ends::line_end(all, at);
+        let end = line_forms::ends::line_end(all, at);
         run_line(&all[at..end], ws, bytes, numbers, text);
         at = end + 1;
     }

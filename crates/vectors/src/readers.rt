@@ -3,25 +3,25 @@ ghost use mathlib.Core.Bool.{true};
 ghost use Prim.Native.Nat.{_≤_};
 ghost use lib.ListN.{length};
 ghost use Rattle.definition.specs.Text as Text;
-ghost use Rattle.words.specs.Table.{Fitting};
+ghost use Rattle.text_words.specs.Table.{Fitting};
 // Runs a reader of bytes on a line: a letter, which says the reader, and the text that it is given.
 // The answer is the values and the next place, or `!` and the number of the refusal.
 // compare/leaves.py says how lines and answers were made.
 use super::put;
 use super::space;
 use definition::Refusal;
-use identifiers::CountRead;
-use identifiers::NameRead;
-use symbols::Symbol;
-use text::Cursor;
-use text::Number;
-use text::ParamRead;
-use utf8::IllFormed;
-use words::Words;
+use text_cursor::Cursor;
+use text_cursor::Number;
+use text_cursor::ParamRead;
+use text_identifiers::CountRead;
+use text_identifiers::NameRead;
+use text_symbols::Symbol;
+use text_utf8::IllFormed;
+use text_words::Words;
 
 fn refused(f: Refusal) {
     io::write_all(1, b"!");
-    put(values::number(f));
+    put(call_values::number(f));
 }
 
 fn show_number(r: Number) {
@@ -84,7 +84,7 @@ fn identifiers(text: &[u8], at: usize, w: Words)
     if text.len() <= at {
         return;
     }
-    let r = identifiers::identifier(text, Cursor { at }, w);
+    let r = text_identifiers::identifier(text, Cursor { at }, w);
     let read = r.read;
     let next = r.words;
     match read {
@@ -104,7 +104,7 @@ fn counted(text: &[u8], at: usize, count: usize)
     if text.len() <= at {
         return;
     }
-    match identifiers::identifier_count(text, Cursor { at }, count) {
+    match text_identifiers::identifier_count(text, Cursor { at }, count) {
         CountRead::Read(n, c) => {
             let place = c.at;
             show_place(place, n);
@@ -127,9 +127,9 @@ fn show_name(out: &mut [u8], text: &[u8], at: usize, w: Words)
 {
     let starts = w.starts;
     let lengths = w.lengths;
-    put(spelling::name_length(text, at, &starts, &lengths, w.count));
+    put(text_spelling::name_length(text, at, &starts, &lengths, w.count));
     let room = out.len();
-    let end = spelling::put_name(out, 0, room, text, at, &starts, &lengths, w.count);
+    let end = text_spelling::put_name(out, 0, room, text, at, &starts, &lengths, w.count);
     io::write_all(1, b"[");
     show_first(out, end);
     io::write_all(1, b"]");
@@ -142,7 +142,7 @@ fn spelled(text: &[u8], at: usize, w: Words)
     if text.len() <= at {
         return;
     }
-    let r = identifiers::identifier(text, Cursor { at }, w);
+    let r = text_identifiers::identifier(text, Cursor { at }, w);
     let read = r.read;
     let next = r.words;
     match read {
@@ -160,7 +160,7 @@ fn run_words(c: u8, text: &[u8]) {
     if 65535 < text.len() {
         return;
     }
-    match utf8::ill_formed(text) {
+    match text_utf8::ill_formed(text) {
         IllFormed::At(_) => refused(Refusal::Encoding),
         IllFormed::Nowhere => match c {
             b'w' => identifiers(text, 0, Words::new()),
@@ -174,12 +174,12 @@ fn run_words(c: u8, text: &[u8]) {
 fn run(c: u8, text: &[u8]) {
     let from = Cursor { at: 0 };
     match c {
-        b'n' => show_number(text::natural(text, from)),
-        b'i' => show_number(text::index(text, from)),
-        b'j' => show_number(text::index_plus_one(text, from)),
-        b'g' => show_param(text::generic_param_index(text, from)),
-        b'u' => show_ill_formed(utf8::ill_formed(text)),
-        b's' => show_symbol(symbols::split(text)),
+        b'n' => show_number(text_cursor::natural(text, from)),
+        b'i' => show_number(text_cursor::index(text, from)),
+        b'j' => show_number(text_cursor::index_plus_one(text, from)),
+        b'g' => show_param(text_cursor::generic_param_index(text, from)),
+        b'u' => show_ill_formed(text_utf8::ill_formed(text)),
+        b's' => show_symbol(text_symbols::split(text)),
         b'w' | b'p' | b'c' => run_words(c, text),
         _ => {
             io::write_all(1, b"?");

@@ -1,12 +1,12 @@
 use mathlib.Core.Path.{ap}
 use Rattle.definition.specs.Calls.{Values}
-use Rattle.endings.proofs.Telling.{told, scratch-told}
+use Rattle.call_endings.proofs.Telling.{told, scratch-told}
 use borrow.Author.Needs.{needs}
 use Rattle.capi_check.proofs.cepruvels_shape_stopped.Statement.{statement}
 use Rattle.capi_check.proofs.cepruvels_shape_stopped.Tie as tie
 use Rattle.capi_check.proofs.cepruvels_shape_stopped.Reads as reads
 use Rattle.capi_check.proofs.cepruvels_shape_stopped.Lts as lts
-use Rattle.values.proofs.numbers.Reads as numbers-reads
+use Rattle.call_values.proofs.numbers.Reads as numbers-reads
 use Rattle.swift_shape.proofs.shape_stopped.Reads as shape-stopped-reads
 
 -- src/lib.rt:113:9

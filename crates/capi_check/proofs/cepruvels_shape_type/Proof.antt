@@ -1,13 +1,13 @@
 use mathlib.Core.Path.{ap, _∙_}
 use Rattle.definition.specs.Calls.{Values}
-use Rattle.values.specs.Six.{six}
-use Rattle.endings.proofs.Telling.{scratch-told}
+use Rattle.call_values.specs.Six.{six}
+use Rattle.call_endings.proofs.Telling.{scratch-told}
 use borrow.Author.Needs.{needs}
 use Rattle.capi_check.proofs.cepruvels_shape_type.Statement.{statement}
 use Rattle.capi_check.proofs.cepruvels_shape_type.Tie as tie
 use Rattle.capi_check.proofs.cepruvels_shape_type.Reads as reads
 use Rattle.capi_check.proofs.cepruvels_shape_type.Lts as lts
-use Rattle.values.proofs.numbers.Reads as numbers-reads
+use Rattle.call_values.proofs.numbers.Reads as numbers-reads
 use Rattle.swift_shape.proofs.shape_type.Reads as shape-type-reads
 
 -- src/lib.rt:65:9

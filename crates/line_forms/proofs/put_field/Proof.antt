@@ -4,8 +4,8 @@ use Rattle.line_forms.proofs.put_field.Statement.{statement}
 use Rattle.line_forms.proofs.put_field.Tie as tie
 use Rattle.line_forms.proofs.put_field.Reads as reads
 use Rattle.line_forms.proofs.put_field.Lts as lts
-use Rattle.numerals.proofs.put_decimal.Reads as put-decimal-reads
-use Rattle.output.proofs.put_byte.Reads as put-byte-reads
+use Rattle.print_numerals.proofs.put_decimal.Reads as put-decimal-reads
+use Rattle.text_output.proofs.put_byte.Reads as put-byte-reads
 
 -- src/lib.rt:20:9
 put-byte-requires : tie.Need-put-byte-requires

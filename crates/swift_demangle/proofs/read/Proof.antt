@@ -2,17 +2,17 @@ use mathlib.Core.Path.{ap}
 use Rattle.definition.specs.Calls.{Values}
 use lib.ListN.{length}
 use Rattle.definition.specs.Reading as Reading
-use Rattle.runs.specs.Ends.{kinds-of}
-use Rattle.symbols.specs.Symbol as Symbols
-use Rattle.endings.proofs.Entering.{was-body, was-refused, entered, kept-out, scratch-same, scratch-run}
-use Rattle.endings.proofs.Runs.{read-ran, within-late}
+use Rattle.machine.specs.RunEnds.{kinds-of}
+use Rattle.text_symbols.specs.Symbol as Symbols
+use Rattle.call_endings.proofs.Entering.{was-body, was-refused, entered, kept-out, scratch-same, scratch-run}
+use Rattle.call_endings.proofs.Runs.{read-ran, within-late}
 use borrow.Author.Needs.{needs}
 use Rattle.swift_demangle.proofs.read.Statement.{statement}
 use Rattle.swift_demangle.proofs.read.Tie as tie
 use Rattle.swift_demangle.proofs.read.Reads as reads
 use Rattle.swift_demangle.proofs.read.Lts as lts
-use Rattle.admission.proofs.admit.Reads as admit-reads
-use Rattle.answers.proofs.read_body.Reads as read-body-reads
+use Rattle.call_admission.proofs.admit.Reads as admit-reads
+use Rattle.swift_demangle.proofs.body.read_body.Reads as read-body-reads
 
 -- src/lib.rt:17:11
 admit-requires : tie.Need-admit-requires

@@ -2,16 +2,16 @@ use mathlib.Core.Path.{ap}
 use Rattle.definition.specs.Calls.{Values}
 use lib.ListN.{length}
 use Rattle.definition.specs.Reading as Reading
-use Rattle.symbols.specs.Symbol as Symbols
-use Rattle.endings.proofs.Entering.{was-body, was-refused, entered, kept-out, scratch-same, scratch-run}
-use Rattle.endings.proofs.Runs.{read-k-ran, within-late}
+use Rattle.text_symbols.specs.Symbol as Symbols
+use Rattle.call_endings.proofs.Entering.{was-body, was-refused, entered, kept-out, scratch-same, scratch-run}
+use Rattle.call_endings.proofs.Runs.{read-k-ran, within-late}
 use borrow.Author.Needs.{needs}
 use Rattle.swift_demangle.proofs.read_stopped.Statement.{statement}
 use Rattle.swift_demangle.proofs.read_stopped.Tie as tie
 use Rattle.swift_demangle.proofs.read_stopped.Reads as reads
 use Rattle.swift_demangle.proofs.read_stopped.Lts as lts
-use Rattle.admission.proofs.admit.Reads as admit-reads
-use Rattle.answers.proofs.read_stopped_body.Reads as read-stopped-body-reads
+use Rattle.call_admission.proofs.admit.Reads as admit-reads
+use Rattle.swift_demangle.proofs.body.read_stopped_body.Reads as read-stopped-body-reads
 
 -- src/lib.rt:47:11
 admit-requires : tie.Need-admit-requires

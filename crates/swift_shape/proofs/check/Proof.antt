@@ -2,17 +2,17 @@ use mathlib.Core.Path.{ap}
 use Rattle.definition.specs.Calls.{Values}
 use lib.ListN.{length}
 use Rattle.definition.specs.Check as Check
-use Rattle.runs.specs.Ends.{kinds-of}
-use Rattle.symbols.specs.Symbol as Symbols
-use Rattle.endings.proofs.Entering.{was-body, was-refused, entered-values, kept-out-values, scratch-same, scratch-run}
-use Rattle.endings.proofs.Runs.{check-ran}
+use Rattle.machine.specs.RunEnds.{kinds-of}
+use Rattle.text_symbols.specs.Symbol as Symbols
+use Rattle.call_endings.proofs.Entering.{was-body, was-refused, entered-values, kept-out-values, scratch-same, scratch-run}
+use Rattle.call_endings.proofs.Runs.{check-ran}
 use borrow.Author.Needs.{needs}
 use Rattle.swift_shape.proofs.check.Statement.{statement}
 use Rattle.swift_shape.proofs.check.Tie as tie
 use Rattle.swift_shape.proofs.check.Reads as reads
 use Rattle.swift_shape.proofs.check.Lts as lts
-use Rattle.admission.proofs.admit.Reads as admit-reads
-use Rattle.check_answers.proofs.check_body.Reads as check-body-reads
+use Rattle.call_admission.proofs.admit.Reads as admit-reads
+use Rattle.swift_shape.proofs.body.check_body.Reads as check-body-reads
 
 -- src/lib.rt:66:11
 admit-requires : tie.Need-admit-requires

@@ -2,16 +2,16 @@ use mathlib.Core.Path.{ap}
 use Rattle.definition.specs.Calls.{Values}
 use lib.ListN.{length}
 use Rattle.definition.specs.Check as Check
-use Rattle.symbols.specs.Symbol as Symbols
-use Rattle.endings.proofs.Entering.{was-body, was-refused, entered, kept-out, scratch-same, scratch-run}
-use Rattle.endings.proofs.Runs.{check-k-ran, within-late}
+use Rattle.text_symbols.specs.Symbol as Symbols
+use Rattle.call_endings.proofs.Entering.{was-body, was-refused, entered, kept-out, scratch-same, scratch-run}
+use Rattle.call_endings.proofs.Runs.{check-k-ran, within-late}
 use borrow.Author.Needs.{needs}
 use Rattle.swift_shape.proofs.check_stopped.Statement.{statement}
 use Rattle.swift_shape.proofs.check_stopped.Tie as tie
 use Rattle.swift_shape.proofs.check_stopped.Reads as reads
 use Rattle.swift_shape.proofs.check_stopped.Lts as lts
-use Rattle.admission.proofs.admit.Reads as admit-reads
-use Rattle.check_answers.proofs.check_stopped_body.Reads as check-stopped-body-reads
+use Rattle.call_admission.proofs.admit.Reads as admit-reads
+use Rattle.swift_shape.proofs.body.check_stopped_body.Reads as check-stopped-body-reads
 
 -- src/lib.rt:89:11
 admit-requires : tie.Need-admit-requires

@@ -6,7 +6,7 @@ use Rattle.vectors.proofs.run_lines.Statement.{statement}
 use Rattle.vectors.proofs.run_lines.Tie as tie
 use Rattle.vectors.proofs.run_lines.Reads as reads
 use Rattle.vectors.proofs.run_lines.Lts as lts
-use Rattle.line_ends.proofs.line_end.Reads as line-end-reads
+use Rattle.line_forms.proofs.ends.line_end.Reads as line-end-reads
 use Rattle.vectors.proofs.run_line.Reads as run-line-reads
 
 abbrev Inv-loop : tie.InvT-loop

@@ -1,5 +1,5 @@
 use native.Mathlib.Omega.{arith}
-use Rattle.identifiers.proofs.Answers.{count-read}
+use Rattle.text_identifiers.proofs.Identifying.{count-read}
 use borrow.Author.Needs.{needs}
 use Prim.Native.Nat.{_-_}
 use lib.ListN.{length}
@@ -12,7 +12,7 @@ use Rattle.vectors.proofs.readers.counted.Kinds as counted-kinds
 use Rattle.vectors.proofs.readers.+counted.Lts-counted as counted-lts
 use Rattle.vectors.proofs.readers.refused.Reads as refused-reads
 use Rattle.vectors.proofs.readers.show_place.Reads as show-place-reads
-use Rattle.identifiers.proofs.identifier_count.Reads as identifier-count-reads
+use Rattle.text_identifiers.proofs.identifier_count.Reads as identifier-count-reads
 use Rattle.vectors.proofs.readers.+counted.{statement}
 use Rattle.vectors.proofs.readers.+counted.Tie.{close}
 

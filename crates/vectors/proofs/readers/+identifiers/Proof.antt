@@ -1,5 +1,5 @@
 use native.Mathlib.Omega.{arith}
-use Rattle.identifiers.proofs.Answers.{identifier-read}
+use Rattle.text_identifiers.proofs.Identifying.{identifier-read}
 use borrow.Author.Needs.{needs}
 use Prim.Native.Nat.{_-_}
 use lib.ListN.{length}
@@ -12,7 +12,7 @@ use Rattle.vectors.proofs.readers.identifiers.Kinds as identifiers-kind
 use Rattle.vectors.proofs.readers.+identifiers.Lts-identifiers as identifiers-lts
 use Rattle.vectors.proofs.readers.refused.Reads as refused-reads
 use Rattle.vectors.proofs.readers.show_place.Reads as show-place-reads
-use Rattle.identifiers.proofs.identifier.Reads as identifier-reads
+use Rattle.text_identifiers.proofs.identifier.Reads as identifier-reads
 use Rattle.vectors.proofs.readers.+identifiers.{statement}
 use Rattle.vectors.proofs.readers.+identifiers.Tie.{close}
 

@@ -1,5 +1,5 @@
 use native.Mathlib.Omega.{arith}
-use Rattle.identifiers.proofs.Answers.{identifier-read}
+use Rattle.text_identifiers.proofs.Identifying.{identifier-read}
 use borrow.Author.Needs.{needs}
 use Prim.Native.Nat.{_-_}
 use lib.ListN.{length}
@@ -13,7 +13,7 @@ use Rattle.vectors.proofs.readers.+spelled.Lts-spelled as spelled-lts
 use Rattle.io.proofs.buffer.Reads as buffer-reads
 use Rattle.vectors.proofs.readers.refused.Reads as refused-reads
 use Rattle.vectors.proofs.readers.show_name.Reads as show-name-reads
-use Rattle.identifiers.proofs.identifier.Reads as identifier-reads
+use Rattle.text_identifiers.proofs.identifier.Reads as identifier-reads
 use Rattle.vectors.proofs.readers.+spelled.{statement}
 use Rattle.vectors.proofs.readers.+spelled.Tie.{close}
 

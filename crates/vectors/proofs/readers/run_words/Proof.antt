@@ -3,8 +3,8 @@ use mathlib.Core.Bool.{true}
 use denote.Ref.{now}
 use borrow.Author.Needs.{needs}
 use Rattle.definition.specs.Text.{ill-formed, well-formed}
-use Rattle.utf8.specs.Utf8.{Placed}
-use Rattle.utf8.proofs.Characters.{well-formed-all}
+use Rattle.text_utf8.specs.Utf8.{Placed}
+use Rattle.text_utf8.proofs.Characters.{well-formed-all}
 use Rattle.vectors.proofs.readers.run_words.Statement.{statement}
 use Rattle.vectors.proofs.readers.run_words.Tie as tie
 

@@ -1,9 +1,0 @@
-use mathlib.Core.Path.{refl}
-use Rattle.agreement.proofs.same_values.Statement.{statement}
-use Rattle.agreement.proofs.same_values.Tie as tie
-
-returns : tie.Need-returns
-returns c = refl
-
-pub same-values-spec : {M : Type 1} → statement M
-same-values-spec = tie.close (tie.spec returns)

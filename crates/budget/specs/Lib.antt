@@ -1,2 +1,0 @@
-pub mod Spent
-pub mod Beyond

@@ -1,0 +1,4 @@
+pub mod Lies
+pub mod EntriesTaken
+pub mod Means
+pub mod Stores

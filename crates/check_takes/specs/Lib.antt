@@ -1,0 +1,2 @@
+pub mod ListRounds
+pub mod Sums

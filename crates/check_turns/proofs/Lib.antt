@@ -1,5 +1,0 @@
-pub mod Answers
-pub mod ChainSteps
-pub mod OneOperator
-pub mod TurnSteps
-pub mod PlainName

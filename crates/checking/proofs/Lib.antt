@@ -1,2 +1,0 @@
-pub mod RunLoop
-pub mod StackNumbers

@@ -1,3 +1,0 @@
-pub mod Lies
-pub mod Answers
-pub mod Means

@@ -1,0 +1,4 @@
+pub mod Spent
+pub mod Beyond
+pub mod Wanted
+pub mod RunEnds

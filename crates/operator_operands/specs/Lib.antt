@@ -1,0 +1,4 @@
+pub mod Letters
+pub mod OperatorReads
+pub mod Standard
+pub mod Counts

@@ -1,3 +1,0 @@
-pub mod Lies
-pub mod Made
-pub mod Holds

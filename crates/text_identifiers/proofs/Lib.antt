@@ -1,0 +1,5 @@
+pub mod Steps
+pub mod Rounds
+pub mod Alike
+pub mod Identifying
+pub mod OneLiteral

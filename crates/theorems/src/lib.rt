@@ -1,0 +1,1 @@
+// No code: proofs/Theorems.antt has the theorems that a reader looks for.

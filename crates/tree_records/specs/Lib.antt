@@ -1,0 +1,4 @@
+pub mod Lies
+pub mod Made
+pub mod Holds
+pub mod NamesOf

@@ -1,0 +1,2 @@
+pub mod TypeLists
+pub mod Cells
