@@ -22,7 +22,7 @@ ROOM = 65536
 
 
 def nested():
-    """`s5ArrayxvpAAVyxG` in itself: each level stands as the type of a variable of the next."""
+    """`s5ArrayxvpAAVyxG` in itself: each level is the type of a variable of the next."""
     text = "x"
     for level in range(LEVELS):
         text = ("s5Array" if level == LEVELS - 1 else "sAA") + text + "vpAAVyxG"

@@ -377,7 +377,7 @@ fn series() -> Vec<(&'static str, &'static str, Vec<usize>, fn(usize) -> String)
         ("words", "bytes of one name, a word every two", [doubling(2048, 32_768), vec![65_520]].concat(), |n| {
             format!("$s1a{n}{}V", "aB".repeat(n / 2))
         }),
-        ("suffix", "bytes behind a dot", [doubling(2048, 32_768), vec![65_520]].concat(), |n| format!("$s1a1bV.{}", "x".repeat(n))),
+        ("suffix", "bytes after a dot", [doubling(2048, 32_768), vec![65_520]].concat(), |n| format!("$s1a1bV.{}", "x".repeat(n))),
         ("names", "names in names, 12 bytes each", doubling(128, 4096).into_iter().map(|n| n.min(2046)).take(5).collect(), |n| {
             format!("$s1a{}", "9nestedABCV".repeat(n))
         }),

@@ -157,7 +157,7 @@ fn ours_of(_: &Case) -> String {
     panic!("our calls are not linked: set LIBCAPI")
 }
 
-/// What stands in the two files of a folder.
+/// The contents of the two files of a folder.
 struct Rows {
     /// Each case and its answer.
     cases: Vec<(String, String)>,
