@@ -24,10 +24,10 @@ pub use Rattle.definition.proofs.OnlySwift.{only-swift}
 -- The text of a generic signature is at least three times as long as its parameter count
 pub use Rattle.definition.proofs.ParamNames.{signature-length}
 
--- Demand 3, for every text, ceiling, k, output length and workspaces that are enough. Stopped after k
--- operators, the check and the reading give the same answer. Whole, they do but for the text, which
--- only the reading has: its length, and 12, exactly where the check accepts and the text is longer
--- than the output slice
+-- Demand 3, for every text, ceiling, k, output length and workspaces that are enough. Stopped after
+-- k operators, the check and the reading give the same answer. Whole, they do but for the text,
+-- which only the reading has: its length, and 12, exactly where the check accepts and the text is
+-- longer than the output slice
 pub judging-alike : Demand3
 judging-alike = JudgingAlike.judging-alike
 
