@@ -13,77 +13,77 @@ use Rattle.text_cursor.proofs.Steps.{Reading, digit_low, digit_high, digits_more
 use Rattle.text_cursor.proofs.digits.Statement.{statement}
 use Rattle.text_cursor.proofs.digits.Tie as tie
 
-abbrev invariant-loop : tie.invariant-loop
+abbrev invariant-loop : tie.invariant-loop-at
 invariant-loop text first value₀ at₀ value at = Reading text first at₀ value at
 
-abbrev decreases-loop : tie.decreases-loop
+abbrev decreases-loop : tie.decreases-loop-at
 decreases-loop text first value₀ at₀ value at = length text - at
 
 -- the byte that is read is a digit
-is_it : (c : tie.Else1 invariant-loop decreases-loop) → digit (get_or c.before.before.before.before.before.before.args.text.now c.before.before.before.before.loop.at 0) ≡ true
-is_it c = sym c.before.is_digit.ensures ∙ not-false _ c.if1.false
+is_it : (c : tie.Else-not-is_digit invariant-loop decreases-loop) → digit (get_or c.args.text.now c.loop-at.at 0) ≡ true
+is_it c = sym c.is_digit.ensures ∙ not-false _ c.if-not-is_digit.false-raw
 
-high : (c : tie.Else1 invariant-loop decreases-loop) → get_or c.before.before.before.before.before.before.args.text.now c.before.before.before.before.loop.at 0 ≤ 57
+high : (c : tie.Else-not-is_digit invariant-loop decreases-loop) → get_or c.args.text.now c.loop-at.at 0 ≤ 57
 high c = digit_high _ (is_it c)
 
 -- the digit makes the number too large
-too_large : (c : tie.Else1 invariant-loop decreases-loop) → 2 ^ 64 ≤ c.before.before.before.before.loop.value * 10 + (get_or c.before.before.before.before.before.before.args.text.now c.before.before.before.before.loop.at 0 - 48) → digits c.before.before.before.before.before.before.args.first (drop c.before.before.before.before.before.before.args.c.at c.before.before.before.before.before.before.args.text.now) ≡ refused 9
-too_large c k = c.before.before.before.before.loop.invariant.same ∙ digits_large c.before.before.before.before.before.before.args.text.now c.before.before.before.before.loop.at c.before.before.before.before.loop.value c.before.before.before.loop-test.true (is_it c) k
+too_large : (c : tie.Else-not-is_digit invariant-loop decreases-loop) → 2 ^ 64 ≤ c.loop-at.value * 10 + (get_or c.args.text.now c.loop-at.at 0 - 48) → digits c.args.first (drop c.args.c.at c.args.text.now) ≡ refused 9
+too_large c k = c.loop-at.invariant.same ∙ digits_large c.args.text.now c.loop-at.at c.loop-at.value c.loop-at-test.true (is_it c) k
 
-loop-holds : tie.Need-loop-init invariant-loop decreases-loop
+loop-holds : tie.Need-loop-at-init invariant-loop decreases-loop
 loop-holds c = record { small = omega arith; inside = omega arith; onward = omega arith; same = refl }
 
-shared-slice-read-b : tie.Need-shared-slice-read-b invariant-loop decreases-loop
+shared-slice-read-b : tie.Need-bounds-text-at invariant-loop decreases-loop
 shared-slice-read-b c = omega arith
 
-is-digit-requires : tie.Need-is-digit-requires invariant-loop decreases-loop
+is-digit-requires : tie.Need-is_digit-requires invariant-loop decreases-loop
 is-digit-requires c κs = search rules
 
-returns : tie.Need-returns invariant-loop decreases-loop
+returns : tie.Need-returns-then-not-is_digit invariant-loop decreases-loop
 returns c =
-    let l = c.before.before.before.before.loop.invariant in
-    let e = sym c.before.is_digit.ensures ∙ not-true _ c.if1.true in
-    record { is = l.same ∙ digits_stop c.before.before.before.before.before.before.args.text.now c.before.before.before.before.loop.at c.before.before.before.before.loop.value c.before.before.before.loop-test.true e; small = l.small; inside = l.inside; onward = l.onward }
+    let l = c.loop-at.invariant in
+    let e = sym c.is_digit.ensures ∙ not-true _ c.if-not-is_digit.true-raw in
+    record { is = l.same ∙ digits_stop c.args.text.now c.loop-at.at c.loop-at.value c.loop-at-test.true e; small = l.small; inside = l.inside; onward = l.onward }
 
-sub-d : tie.Need-overflow-sub-d invariant-loop decreases-loop
+sub-d : tie.Need-overflow_sub-d invariant-loop decreases-loop
 sub-d c = digit_low _ (is_it c)
 
-cast-d : tie.Need-overflow-cast-d invariant-loop decreases-loop
+cast-d : tie.Need-overflow_cast-d invariant-loop decreases-loop
 cast-d c = omega (arith, high c)
 
-returns-2 : tie.Need-returns-2 invariant-loop decreases-loop
+returns-2 : tie.Need-returns-then-value-gt1844674407370955161 invariant-loop decreases-loop
 unfolding number
 returns-2 c = too_large c.before (omega (arith, high c.before))
 
-mul-tens : tie.Need-overflow-mul-tens invariant-loop decreases-loop
+mul-tens : tie.Need-overflow_mul-tens invariant-loop decreases-loop
 mul-tens c = omega arith
 
-sub-if3 : tie.Need-overflow-sub-if3 invariant-loop decreases-loop
+sub-if3 : tie.Need-overflow_sub-tens invariant-loop decreases-loop
 sub-if3 c = omega arith
 
-returns-3 : tie.Need-returns-3 invariant-loop decreases-loop
+returns-3 : tie.Need-returns-then-tens-d invariant-loop decreases-loop
 unfolding number
 returns-3 c = too_large c.before.before (omega (arith, high c.before.before))
 
-add-value : tie.Need-overflow-add-value invariant-loop decreases-loop
+add-value : tie.Need-overflow_add-value invariant-loop decreases-loop
 add-value c = omega (arith, high c.before.before)
 
-add_at : tie.Need-overflow-add-at invariant-loop decreases-loop
+add_at : tie.Need-overflow_add-at invariant-loop decreases-loop
 add_at c = omega arith
 
-loop-less : tie.Need-loop-smaller invariant-loop decreases-loop
+loop-less : tie.Need-loop-at-smaller invariant-loop decreases-loop
 loop-less c = omega arith
 
-loop-again : tie.Need-loop-preserved invariant-loop decreases-loop
+loop-again : tie.Need-loop-at-preserved invariant-loop decreases-loop
 loop-again c =
-    let x = c.before.before.before.before.before.before.before.before.args.text.now in
-    let k : c.before.before.before.before.before.before.loop.value * 10 + (get_or x c.before.before.before.before.before.before.loop.at 0 - 48) < 2 ^ 64 = omega (arith, high c.before.before) in
-    record { small = k; inside = omega arith; onward = omega arith; same = c.before.before.before.before.before.before.loop.invariant.same ∙ digits_more x c.before.before.before.before.before.before.loop.at c.before.before.before.before.before.before.loop.value c.before.before.before.before.before.loop-test.true (is_it c.before.before) k }
+    let x = c.args.text.now in
+    let k : c.loop-at.value * 10 + (get_or x c.loop-at.at 0 - 48) < 2 ^ 64 = omega (arith, high c.before.before) in
+    record { small = k; inside = omega arith; onward = omega arith; same = c.loop-at.invariant.same ∙ digits_more x c.loop-at.at c.loop-at.value c.loop-at-test.true (is_it c.before.before) k }
 
-returns-4 : tie.Need-returns-4 invariant-loop decreases-loop
+returns-4 : tie.Need-returns invariant-loop decreases-loop
 returns-4 c =
-    let l = c.before.loop.invariant in
-    record { is = l.same ∙ digits_none c.before.before.before.args.text.now c.before.loop.at c.before.loop.value c.loop-test.false; small = l.small; inside = l.inside; onward = l.onward }
+    let l = c.loop-at.invariant in
+    record { is = l.same ∙ digits_none c.args.text.now c.loop-at.at c.loop-at.value c.loop-at-test.false; small = l.small; inside = l.inside; onward = l.onward }
 
 pub digits_spec : {M : Type 1} → statement M
 digits_spec =

@@ -13,26 +13,26 @@ use Rattle.text_cursor.proofs.index_plus_one.Tie as tie
 index-requires : tie.Need-index-requires
 index-requires c κs = search rules
 
-enum-known-i : tie.Need-enum-known-i
+enum-known-i : tie.Need-enum_known-i
 enum-known-i c = search rules
 
-plus-one-requires : tie.Need-plus-one-requires
+plus-one-requires : tie.Need-plus_one-requires
 plus-one-requires c κs = search rules
 
-enum-known-f : tie.Need-enum-known-f
+enum-known-f : tie.Need-enum_known-f
 enum-known-f c = search rules
 
-returns : tie.Need-returns
+returns : tie.Need-returns-in-Read
 returns c =
-    let x = c.before.before.before.before.before.before.args.text.now in
-    let g = number_read x c.before.before.before.before.before.before.args.c.at c.before.before.i.given.1 c.before.before.before.before.index.ensures in
-    let l : c.before.before.before.before.before.before.args.c.at < c.before.before.i.given.0.1.0.at = omega arith in
-    numbered_is x (index_plus_one_is (drop c.before.before.before.before.before.before.args.c.at x) ∙ then_ok (λ (i : ℕ). checked (i + 1)) g.is) (le_refl _) c.plus_one.result (c.plus_one.ensures x c.before.before.before.before.before.before.args.c.at g.inside l)
+    let x = c.args.text.now in
+    let g = number_read x c.args.c.at c.in-Read.is c.index.ensures in
+    let l : c.args.c.at < c.in-Read.next.at = omega arith in
+    numbered_is x (index_plus_one_is (drop c.args.c.at x) ∙ then_ok (λ (i : ℕ). checked (i + 1)) g.is) (le_refl _) c.plus_one.result (c.plus_one.ensures x c.args.c.at g.inside l)
 
-returns-2 : tie.Need-returns-2
+returns-2 : tie.Need-returns-in-Refused
 returns-2 c =
-    let x = c.before.before.before.before.before.args.text.now in
-    index_plus_one_is (drop c.before.before.before.before.before.args.c.at x) ∙ then_refused (λ (i : ℕ). checked (i + 1)) (number_refused x c.before.before.before.before.before.args.c.at c.before.f.given.1 c.before.before.before.index.ensures)
+    let x = c.args.text.now in
+    index_plus_one_is (drop c.args.c.at x) ∙ then_refused (λ (i : ℕ). checked (i + 1)) (number_refused x c.args.c.at c.in-Refused.is c.index.ensures)
 
 pub index_plus_one_spec : {M : Type 1} → statement M
 index_plus_one_spec =

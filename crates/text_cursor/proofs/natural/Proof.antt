@@ -13,39 +13,39 @@ use Rattle.text_cursor.proofs.natural.Statement.{statement}
 use Rattle.text_cursor.proofs.natural.Tie as tie
 
 -- the byte that is read is a digit
-is_it : (c : tie.Then2) → digit (get_or c.before.before.before.before.before.args.text.now c.before.before.before.before.before.args.c.at 0) ≡ true
-is_it c = sym c.before.is_digit.ensures ∙ c.if2.true
+is_it : (c : tie.Then-is_digit) → digit (get_or c.args.text.now c.args.c.at 0) ≡ true
+is_it c = sym c.is_digit.ensures ∙ c.if-is_digit.true
 
-shared-slice-read-b : tie.Need-shared-slice-read-b
+shared-slice-read-b : tie.Need-bounds-text-at
 shared-slice-read-b c = search rules
 
-is-digit-requires : tie.Need-is-digit-requires
+is-digit-requires : tie.Need-is_digit-requires
 is-digit-requires c κs = search rules
 
-add-t10 : tie.Need-overflow-add-t10
+add-t10 : tie.Need-overflow_add-at
 add-t10 c = search rules
 
-sub-digits : tie.Need-overflow-sub-digits
+sub-digits : tie.Need-overflow_sub-b
 sub-digits c = digit_low _ (is_it c)
 
-cast-digits : tie.Need-overflow-cast-digits
-cast-digits c = let h : get_or c.before.before.before.before.before.args.text.now c.before.before.before.before.before.args.c.at 0 ≤ 57 = digit_high _ (is_it c) in omega arith
+cast-digits : tie.Need-overflow_cast-b
+cast-digits c = let h : get_or c.args.text.now c.args.c.at 0 ≤ 57 = digit_high _ (is_it c) in omega arith
 
 digits-requires : tie.Need-digits-requires
 digits-requires c κs = search rules
 
-returns : tie.Need-returns
+returns : tie.Need-returns-then-is_digit
 returns c =
-    let x = c.before.before.before.before.before.before.args.text.now in
-    counted_is x (natural_reads x c.before.before.before.before.before.before.args.c.at c.before.before.before.before.if1.true (is_it c.before)) (le_refl _) c.digits.result c.digits.ensures
+    let x = c.args.text.now in
+    counted_is x (natural_reads x c.args.c.at c.if-at-text.true (is_it c.before)) (le_refl _) c.digits.result c.digits.ensures
 
-returns-2 : tie.Need-returns-2
+returns-2 : tie.Need-returns-else-is_digit
 unfolding number
-returns-2 c = natural_other c.before.before.before.before.before.args.text.now c.before.before.before.before.before.args.c.at c.before.before.before.if1.true (sym c.before.is_digit.ensures ∙ c.if2.false)
+returns-2 c = natural_other c.args.text.now c.args.c.at c.if-at-text.true (sym c.is_digit.ensures ∙ c.if-is_digit.false)
 
-returns-3 : tie.Need-returns-3
+returns-3 : tie.Need-returns-else-at-text
 unfolding number
-returns-3 c = natural_none c.before.before.args.text.now c.before.before.args.c.at c.if1.false
+returns-3 c = natural_none c.args.text.now c.args.c.at c.if-at-text.false
 
 pub natural_spec : {M : Type 1} → statement M
 natural_spec =

@@ -9,36 +9,36 @@ use Rattle.text_cursor.proofs.Steps.{differ, next_if_takes, next_if_leaves, next
 use Rattle.text_cursor.proofs.next_if.Statement.{statement}
 use Rattle.text_cursor.proofs.next_if.Tie as tie
 
-shared-slice-read-if2 : tie.Need-shared-slice-read-if2
+shared-slice-read-if2 : tie.Need-bounds-text-at
 shared-slice-read-if2 c = search rules
 
-add-t10 : tie.Need-overflow-add-t10
+add-t10 : tie.Need-overflow_add-result
 add-t10 c = search rules
 
-returns : tie.Need-returns
+returns : tie.Need-returns-then-text-at
 returns c =
     record {
-      is = next_if_takes c.before.before.before.args.text.now c.before.before.before.args.c.at (λ (x : ℕ). eqb x c.before.before.before.args.b) c.before.before.if1.true (eq-eqb _ _ c.if2.true);
+      is = next_if_takes c.args.text.now c.args.c.at (λ (x : ℕ). eqb x c.args.b) c.if-at-text.true (eq-eqb _ _ c.if-text-at.true);
       inside = omega arith;
       onward = omega arith;
       took = λ e. refl;
       left = λ e. absurd (differ e);
     }
 
-returns-2 : tie.Need-returns-2
+returns-2 : tie.Need-returns-else-text-at
 returns-2 c =
     record {
-      is = next_if_leaves c.before.before.before.args.text.now c.before.before.before.args.c.at (λ (x : ℕ). eqb x c.before.before.before.args.b) c.before.before.if1.true (ne_eqb _ _ c.if2.false);
+      is = next_if_leaves c.args.text.now c.args.c.at (λ (x : ℕ). eqb x c.args.b) c.if-at-text.true (ne_eqb _ _ c.if-text-at.false);
       inside = omega arith;
       onward = omega arith;
       took = λ e. absurd (differ (sym e));
       left = λ e. refl;
     }
 
-returns-3 : tie.Need-returns-3
+returns-3 : tie.Need-returns-else-at-text
 returns-3 c =
     record {
-      is = next_if_none c.before.args.text.now c.before.args.c.at (λ (x : ℕ). eqb x c.before.args.b) c.if1.false;
+      is = next_if_none c.args.text.now c.args.c.at (λ (x : ℕ). eqb x c.args.b) c.if-at-text.false;
       inside = omega arith;
       onward = omega arith;
       took = λ e. absurd (differ (sym e));
