@@ -20,6 +20,17 @@ def norm(name):
     return re.sub("-+", "-", name.replace("_", "-"))
 
 
+def lent_to(callee):
+    """The names of the slices that a function of this repository is lent to write."""
+    parts = callee.split("::")
+    for path in glob.glob(f"{CRATES}/{parts[0]}/src/**/*.rt", recursive=True):
+        with open(path, encoding="utf-8") as f:
+            m = re.search(r"\bfn " + re.escape(parts[-1]) + r"(?:<[^>]*>)?\((.*?)\)\s*(?:->|\n|\{)", f.read(), re.S)
+        if m:
+            return re.findall(r"(\w+): &mut \[", m.group(1))
+    return []
+
+
 class Names:
     """The names of one function: places with their steps, goals and loops."""
 
@@ -28,13 +39,26 @@ class Names:
     def __init__(self, of):
         self.index = {}
         self.places = []
+        self.callees = []
         self.arms = of["arms"]
         for (name, parent, step, callee, fields), new in zip(of["places"], of["places_by_name"]):
             self.index[norm(name)] = len(self.places)
             self.places.append((name, norm(parent) if parent else None, step, fields, new))
+            self.callees.append(callee)
         self.needs = of["needs"]
         self.asked_at = [self.promoted(norm(a[0]), True) for a in of["asked_at"]]
         self.loops = [it[0] for it in of["loops"]]
+        self.args = {}
+        for old, new in of["args"]:
+            a, b = old.replace(" ", "").split("."), new.replace(" ", "").split(".")
+            self.args[tuple(a[1:])] = b[1:]
+
+    def inner(self, place):
+        """Whether a place is an arm's inner record: one of the same arm follows it."""
+        arm = self.arms[self.index[place]]
+        if not arm:
+            return False
+        return any(p[1] == place and self.arms[at] and self.arms[at][0] == arm[0] for at, p in enumerate(self.places))
 
     def level(self, place):
         arm = self.arms[self.index[place]]
@@ -47,18 +71,16 @@ class Names:
     def before(self, place):
         """The place that today's record has as its field before."""
         up = self.parent(place)
-        if self.level(place) == 3:
-            while up and self.level(up) in (1, 2):
+        if self.level(place) and not self.inner(place):
+            while up and self.level(up) in (1, 2) and self.arms[self.index[up]][0] == self.arms[self.index[place]][0]:
                 up = self.parent(up)
         return up
 
     def promoted(self, place, goal=False):
         """An arm's inner record is today the arm's own, but for the goals asked inside it."""
-        if self.level(place) != 2 or goal:
-            return place
-        for name, parent, *_ in self.places:
-            if parent == place and self.level(norm(name)) == 3:
-                return norm(name)
+        while not goal and self.level(place) and self.inner(place):
+            arm = self.arms[self.index[place]][0]
+            place = next(norm(p[0]) for at, p in enumerate(self.places) if p[1] == place and self.arms[at] and self.arms[at][0] == arm)
         return place
 
     def up(self, place, k):
@@ -80,7 +102,8 @@ class Names:
         while seek is not None:
             at = self.index[seek]
             name, parent, step, renamed, new = self.places[at]
-            if self.level(seek) == 3:
+            callee = self.callees[at]
+            if self.level(seek) and not self.inner(seek):
                 final = at
             if step[0] and norm(step[0]) == norm(fields[0]):
                 rest = fields[1:]
@@ -96,6 +119,10 @@ class Names:
                     if rest and rest[0] == old:
                         rest = [now] + rest[1:]
                         break
+                if len(rest) > 1 and rest[0] == "auto" and rest[1].isdigit() and callee:
+                    lent = lent_to(callee)
+                    if int(rest[1]) < len(lent):
+                        rest = ["auto", lent[int(rest[1])]] + rest[2:]
                 return [step[1]] + rest
             seek = parent
         return None
@@ -107,86 +134,132 @@ def declarations(text):
     return parts
 
 
-def turn(text, names, said):
-    code_end = text.find("tie.spec")
-    # goals by their position in tie.spec
-    given = []
-    m = re.search(r"\(tie\.spec\s+(.*?)\)\s*\Z", text, re.S)
-    if m:
-        given = re.findall(W, m.group(1))
-        want = [x for loop in names.loops for x in ("i", "d")]
-        if len(given) != 2 * len(names.loops) + len(names.needs):
-            said.append(f"tie.spec has {len(given)} arguments, today's {2 * len(names.loops)} + {len(names.needs)}")
-    goal_of = {}
-    tail = given[len(given) - len(names.needs):] if len(given) >= len(names.needs) else []
-    for at, decl in enumerate(tail):
-        goal_of[decl] = at
+def terms(text):
+    """Splits an application's arguments, as they stand, at the outermost level."""
+    out, depth, at = [], 0, 0
+    for m in re.finditer(r"[({\[]|[)}\]]|\s+", text):
+        it = m.group(0)
+        if it in "({[":
+            depth += 1
+        elif it in ")}]":
+            depth -= 1
+        elif depth == 0:
+            out.append(text[at:m.start()])
+            at = m.end()
+    out.append(text[at:])
+    return [t for t in out if t]
+
+
+def by_old_name(names):
     by_old = {}
     for at, (old, new) in enumerate(names.needs):
         by_old.setdefault(norm(old), at)
         by_old.setdefault(norm("overflow_" + old), at)
         by_old.setdefault(norm(new), at)
+    return by_old
+
+
+def turn(text, aliases, said):
+    """aliases: the names of functions, by the module name that their goals are cited under."""
+    alias = "(" + "|".join(sorted(map(re.escape, aliases), key=len, reverse=True)) + ")"
+    helpers = {}
+    for decl, module, place in re.findall(r"(?m)^(?:pub )?(" + W + r") : (?:\{[^}]*\} → |\(\w+ : [^()]*\) → )*?\(\S+ : " + alias + r"\.(" + W + ")", text):
+        if norm(place) in aliases[module].index:
+            helpers[decl] = aliases[module].promoted(norm(place))
+    for names in aliases.values():
+        names.helpers = helpers
+    # Goals by their position in tie.spec.
+    goal_of, dropped = {}, set()
+    if "tie" in aliases:
+        names = aliases["tie"]
+        m = re.search(r"\(tie\.spec\s+(.*)\)\s*\Z", text, re.S)
+        if m:
+            given = terms(m.group(1))
+            if len(given) != 2 * len(names.loops) + len(names.needs):
+                said.append(f"tie.spec has {len(given)} arguments, today's {2 * len(names.loops)} + {len(names.needs)}")
+            else:
+                tail = given[2 * len(names.loops):]
+                goal_of = {decl: at for at, decl in enumerate(tail)}
+                turned = []
+                for at, term in enumerate(tail):
+                    var = re.match(r"\(λ (\w+)[. ]", term)
+                    if var:
+                        term = rename_paths(term, names, {var.group(1): names.asked_at[at]}, said)
+                    turned.append(term)
+                head = text[:m.start(1)]
+                text = head + "\n    ".join(given[:2 * len(names.loops)] + turned) + text[m.end(1):]
 
     out = []
     for part in declarations(text):
         head = re.match(r"(?:pub |abbrev |unfoldable )*(\S+) :", part)
         if not head:
-            out.append(rename_tie(part, names, by_old, said))
+            out.append(rename_tie(part, aliases, said))
             continue
         decl = head.group(1)
         env = {}
-        first = re.search(r"(?m)^" + re.escape(decl) + r"(?: [^\n]*?)? =", part[head.end():])
-        need = re.match(r"\s*(?:\(\w+ : [^()]*\) → )*tie\.Need-(" + W + ")", part[head.end():])
+        need = re.match(r"\s*(?:\(\w+ : [^()]*\) → )*" + alias + r"\.Need-(" + W + ")", part[head.end():])
+        module = need.group(1) if need else None
         if need:
+            names = aliases[module]
             at = goal_of.get(decl)
             if at is None:
-                at = by_old.get(norm(need.group(1)))
+                at = by_old_name(names).get(norm(need.group(2)))
             if at is None:
-                said.append(f"{decl}: no goal {need.group(1)}")
-            else:
-                part = part.replace("tie.Need-" + need.group(1), "tie.Need-" + names.needs[at][1], 1)
-                args = re.search(r"(?m)^" + re.escape(decl) + r"((?: [^\s=]+)*) =", part)
-                if args:
-                    bound = args.group(1).split()
-                    if bound:
-                        env[bound[0]] = names.asked_at[at]
-        for var, place in re.findall(r"\((\S+) : tie\.(" + W + ")", part):
-            if norm(place) in names.index:
-                env[var] = names.promoted(norm(place))
-        part = rename_tie(part, names, by_old, said)
+                said.append(f"{decl}: no goal {need.group(2)}: dropped")
+                dropped.add(decl)
+                continue
+            part = part.replace(f"{module}.Need-{need.group(2)}", f"{module}.Need-{names.needs[at][1]}", 1)
+            before = len(re.findall(r"\(\w+ : [^()]*\) →", part[head.end():].split(module + ".Need")[0]))
+            args = re.search(r"(?m)^" + re.escape(decl) + r"((?: [^\s=]+)*) =", part)
+            if args:
+                bound = args.group(1).split()
+                if len(bound) > before:
+                    env[bound[before]] = names.asked_at[at]
+            own = names
+        for var, mod, place in re.findall(r"\((\S+) : " + alias + r"\.(" + W + ")", part):
+            if norm(place) in aliases[mod].index:
+                env[var] = aliases[mod].promoted(norm(place))
+                own = aliases[mod]
+        part = rename_tie(part, aliases, said, module if need else None)
         if env:
-            part = rename_paths(part, names, env, said)
+            part = rename_paths(part, own, env, said)
         out.append(part)
-    return "".join(out)
+    whole = "".join(out)
+    for decl in dropped:
+        whole = re.sub(r"(?m)^ +" + re.escape(decl) + r"\n", "", whole)
+    return whole
 
 
-def rename_tie(part, names, by_old, said):
+def rename_tie(part, aliases, said, done=None):
+    alias = "(" + "|".join(sorted(map(re.escape, aliases), key=len, reverse=True)) + ")"
+
     def one(m):
-        it = m.group(1)
-        if it in ("spec", "close"):
+        module, it = m.groups()
+        names = aliases[module]
+        if it in ("spec", "close", "Claims", "statement"):
             return m.group(0)
         key = norm(it)
         if key in names.index:
-            return "tie." + names.places[names.index[names.promoted(key)]][4]
+            return module + "." + names.places[names.index[names.promoted(key)]][4]
         for old, new in names.loops:
             for word in ("invariant-", "decreases-"):
                 if key == norm(word + old):
-                    return "tie." + word + new
+                    return module + "." + word + new
         if key.startswith("Need-"):
             if any(it == "Need-" + new for _, new in names.needs):
                 return m.group(0)
-            at = by_old.get(key[5:])
+            at = by_old_name(names).get(key[5:])
             if at is not None:
-                return "tie.Need-" + names.needs[at][1]
-        said.append(f"tie.{it}")
+                return module + ".Need-" + names.needs[at][1]
+        said.append(f"{module}.{it}")
         return m.group(0)
 
-    return re.sub(r"\btie\.(" + W + ")", one, part)
+    return re.sub(r"(?<![\w.-])" + alias + r"\.(" + W + ")", one, part)
 
 
 def rename_paths(part, names, env, said):
     env = dict(env)
-    pattern = re.compile(r"(?<![\w.'-])(\w+'*)((?:\.(?!\s)" + W + ")+)(?= in\\b| |\\)|;|,|\\n|$|})".replace("\\\\", "\\"))
+    pattern = re.compile(r"(?<![\w.'-])(\w+'*)((?:\.(?!\s)" + W + ")+)")
     for m in re.finditer(r"let (\w+) = (\w+)((?:\.before)*) in", part):
         if m.group(2) in env and m.group(1) not in env:
             at = names.up(env[m.group(2)], m.group(3).count(".before"))
@@ -203,12 +276,21 @@ def rename_paths(part, names, env, said):
             k += 1
         if not fields:
             target = names.up(env[var], k)
+            # A helper that is given the place says which it wants.
+            for word in reversed(re.findall(W, part[:m.start()])):
+                if word in names.helpers:
+                    target = names.helpers[word]
+                    break
             count = names.chain(env[var], names.promoted(target)) if target else None
             if count is None:
                 said.append(f"place {m.group(0)} at {env[var]}")
                 return m.group(0)
             return var + ".before" * count
-        if fields[0] in names.AT_START:
+        if tuple(fields[:2]) in names.args:
+            fields[:2] = names.args[tuple(fields[:2])]
+        if tuple(fields[:1]) in names.args:
+            fields[:1] = names.args[tuple(fields[:1])]
+        if fields[0] in names.AT_START or fields[0].startswith(("told-", "fits-")):
             return var + "." + ".".join(fields)
         new = names.step(env[var], fields)
         if new is None:
@@ -220,20 +302,34 @@ def rename_paths(part, names, env, said):
 
 
 def main(argv):
+    global CRATES
+    CRATES = os.path.dirname(os.path.abspath(argv[1].rstrip("/")))
     with open(argv[0], encoding="utf-8") as f:
         listed = json.load(f)
     crate = argv[1].rstrip("/")
+    # The files of a proof, each with the names that it cites: by function, or by the functions of a cycle.
+    files = {}
     for module, of in sorted(listed.items()):
-        m = re.match(r"Rattle-\w+-proofs\.(.*)\.Lts$", module)
+        m = re.match(r"Rattle-\w+-proofs\.(.*)\.Lts(?:-(\w+))?$", module)
         if not m:
             continue
-        path = f"{crate}/proofs/{m.group(1).replace('.', '/')}/Proof.antt"
-        if not os.path.isfile(path):
-            continue
+        folder = f"{crate}/proofs/{m.group(1).replace('.', '/')}"
+        for path in [f"{folder}/Proof.antt", *glob.glob(f"{glob.escape(folder)}/Proof/*.antt")]:
+            if os.path.isfile(path):
+                files.setdefault(path, []).append((module, m.group(2), of))
+    for path, entries in sorted(files.items()):
         with open(path, encoding="utf-8") as f:
             text = f.read()
+        aliases = {}
+        for module, member, of in entries:
+            last = "Lts-" + member if member else "Tie"
+            cited = re.search(r"(?m)^use " + re.escape("Rattle." + module.split("-", 1)[1].replace("-proofs.", ".proofs.", 1).rsplit(".", 1)[0]) + r"\." + re.escape(last) + r" as (\S+)", text)
+            if cited:
+                aliases[cited.group(1)] = Names(of)
+        if not aliases:
+            continue
         said = []
-        new = turn(text, Names(of), said)
+        new = turn(text, aliases, said)
         for line in said:
             print(f"{path}: {line}")
         if new != text:

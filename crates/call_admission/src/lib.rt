@@ -1,5 +1,6 @@
 // The checks 1 to 5 of document 01, which are made before a run. They also give the part of the
 // text that is read.
+#![tactic(auto)]
 ghost use Rattle.std.specs.Prelude.{◌≡◌, true, ◌≤◌};
 ghost use Rattle.definition.specs.Text as Text;
 ghost use Rattle.call_admission.specs.Admits.{framed, Frames, Admits};
@@ -12,7 +13,7 @@ use text_utf8::IllFormed;
 
 // Either the body is text[start..end] and is well-formed, or the text is refused before a run, at a
 // place.
-#[derive(Drop)]
+#[derive(Clone, Copy)]
 pub enum Admitted {
     Body(usize, usize),
     Refused(Refusal, usize),

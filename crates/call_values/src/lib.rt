@@ -1,4 +1,5 @@
 // An answer in numbers: the number of a refusal, and the six values of an answer.
+#![tactic(auto)]
 
 // Two answers compared as demand 3 says.
 pub mod agreement;
@@ -30,7 +31,7 @@ pub fn number(refusal: Refusal) -> usize
 }
 
 // An answer as in document 01. The number is 0 if the text is accepted.
-#[derive(Drop)]
+#[derive(Clone, Copy)]
 pub struct Values {
     pub number: usize,
     pub place: usize,

@@ -1,5 +1,7 @@
 // What is left at the end of the check's run: whether exactly one entry is left after a whole run,
 // and the entries that a stopped run writes.
+#![tactic(auto)]
+
 ghost use Rattle.std.specs.Prelude.{◌≡◌, reverse, ◌*◌, ◌≤◌, length};
 ghost use Rattle.definition.specs.Base.{is_some};
 ghost use Rattle.definition.specs.Calls as Calls;

@@ -1,6 +1,7 @@
 // The entries of the shape check in a lent workspace, which is only read here. An entry is taken
 // from the stack by decreasing the depth. Entry i is stored in the three numbers from 3 * i on:
 // kind, size and count.
+#![tactic(auto)]
 
 // Entries written to the workspace.
 pub mod stores;
@@ -16,7 +17,7 @@ use definition::Refusal;
 use machine::budget::Budget;
 use machine::kinds::Want;
 
-#[derive(Drop)]
+#[derive(Clone, Copy)]
 pub struct Entry {
     pub kind: u32,
     pub size: u32,
@@ -24,7 +25,7 @@ pub struct Entry {
 }
 
 // The counts, the numbers of entries on the stack and remembered, and the number of known words.
-#[derive(Drop)]
+#[derive(Clone, Copy)]
 pub struct State {
     pub budget: Budget,
     pub depth: usize,
@@ -34,7 +35,7 @@ pub struct State {
 
 // What an operator has taken so far: the sum of the sizes, what was counted, and whether there was
 // a signature.
-#[derive(Drop)]
+#[derive(Clone, Copy)]
 pub struct Taken {
     pub size: usize,
     pub count: usize,
@@ -42,40 +43,40 @@ pub struct Taken {
 }
 
 // The top entry and the state without it, or nothing if it is of another kind.
-#[derive(Drop)]
+#[derive(Clone, Copy)]
 pub enum Tried {
     Top(Entry, State),
     Nothing,
 }
 
-#[derive(Drop)]
+#[derive(Clone, Copy)]
 pub enum Popped {
     Top(Entry, State),
     Refused(Refusal),
 }
 
 // Whether an entry was taken.
-#[derive(Drop)]
+#[derive(Clone, Copy)]
 pub struct Marked {
     pub taken: bool,
     pub next: State,
 }
 
-#[derive(Drop)]
+#[derive(Clone, Copy)]
 pub enum Moved {
     To(State),
     Refused(Refusal),
 }
 
 // What was taken, with the state after it.
-#[derive(Drop)]
+#[derive(Clone, Copy)]
 pub enum Taking {
     Went(Taken, State),
     Refused(Refusal),
 }
 
 // The takes of a row, as in the definition.
-#[derive(Drop)]
+#[derive(Clone, Copy)]
 pub enum Take {
     Wraps,
     Node(Want),

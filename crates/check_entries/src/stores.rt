@@ -11,7 +11,7 @@ use definition::Refusal;
 use machine::budget::Spent;
 
 // The state after a step, or its refusal.
-#[derive(Drop)]
+#[derive(Clone, Copy)]
 pub enum Step {
     Done(State),
     Refused(Refusal),

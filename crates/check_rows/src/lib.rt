@@ -1,5 +1,7 @@
 // The rules of the shape check as a table: what each row takes and leaves, and the row of each
 // operator.
+#![tactic(auto)]
+
 ghost use Rattle.std.specs.Prelude.{◌≡◌, ◌+◌, ◌*◌, ◌≤◌, ◌<◌, eqb, get_or};
 ghost use Rattle.check_rows.specs.Table.{codes, decoded, kinds, own, counted, remembered, nominal_index, leaf_row, subject_index, layout_index, constraint_index, accessor_index, about_index, row_of, times_of};
 
@@ -9,7 +11,7 @@ use machine::kinds::Want;
 
 // How many copies of the entry that a row leaves are charged and pushed. `Once`: it is pushed and
 // not charged.
-#[derive(Drop)]
+#[derive(Clone, Copy)]
 pub enum Copies {
     Once,
     Times(usize),

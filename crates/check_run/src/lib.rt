@@ -1,4 +1,5 @@
 // The shape check's run, one turn after another: whole, or stopped after k operators.
+#![tactic(auto)]
 
 // One turn: the letters of an operator, and the operator.
 pub mod turns;
@@ -16,7 +17,7 @@ use text_words::waiting::{Waiting, count_waiting, wait};
 
 // The state at the end of a run; or the refusal, and the place in the body where the refused
 // operator begins.
-#[derive(Drop)]
+#[derive(Clone, Copy)]
 pub enum Ended {
     Ran(State),
     Stopped(Refusal, usize),

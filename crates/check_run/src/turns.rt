@@ -21,14 +21,14 @@ use text_cursor::Cursor;
 use text_identifiers::{CountRead, Extent};
 
 // The state after an operator and the cursor after it, or its refusal.
-#[derive(Drop)]
+#[derive(Clone, Copy)]
 pub enum Turned {
     To(State, Cursor),
     Refused(Refusal),
 }
 
 // One item after `A` was performed: more follow, it was the last, or it is refused.
-#[derive(Drop)]
+#[derive(Clone, Copy)]
 pub enum Letter {
     More(State, Cursor),
     Last(State, Cursor),
@@ -36,7 +36,7 @@ pub enum Letter {
 }
 
 // The beginning of a turn: its step is counted and its node is charged.
-#[derive(Drop)]
+#[derive(Clone, Copy)]
 enum Begun {
     Next(State),
     Refused(Refusal),
@@ -44,7 +44,7 @@ enum Begun {
 
 // The state after a name of one literal, the start of the literal, and the cursor after it; or its
 // refusal.
-#[derive(Drop)]
+#[derive(Clone, Copy)]
 pub enum PlainTurned {
     To(State, usize, Cursor),
     Refused(Refusal),

@@ -1,4 +1,5 @@
 // What a row of the shape check takes from the stack.
+#![tactic(auto)]
 
 // Lists of entries.
 pub mod lists;

@@ -9,7 +9,7 @@ use definition::Refusal;
 use machine::kinds::Want;
 
 // The kinds of lists on the stack.
-#[derive(Drop)]
+#[derive(Clone, Copy)]
 pub enum Series {
     Elements,
     Members,
@@ -18,7 +18,7 @@ pub enum Series {
 }
 
 // One round of a list: it was the last, or there are more.
-#[derive(Drop)]
+#[derive(Clone, Copy)]
 pub enum Round {
     Last(Taken, State),
     More(Taken, State),

@@ -1,7 +1,8 @@
 // The types that contracts name. The meaning of each of their cases is in specs/Enums.antt.
+#![tactic(auto)]
 
 // The refusals 1 to 12 of document 01, "How each operation refuses".
-#[derive(Drop)]
+#[derive(Clone, Copy)]
 pub enum Refusal {
     Ceiling,
     Workspace,
@@ -18,7 +19,7 @@ pub enum Refusal {
 }
 
 // The number of turns of `run`, the sum of all charges, and the number of wraps.
-#[derive(Drop)]
+#[derive(Clone, Copy)]
 pub struct Counts {
     pub steps: usize,
     pub total: usize,
@@ -26,13 +27,13 @@ pub struct Counts {
 }
 
 // The answer of a call: counts and length; or the refusal and its place.
-#[derive(Drop)]
+#[derive(Clone, Copy)]
 pub enum Answer {
     Accepted(Counts, usize),
     Refused(Refusal, usize),
 }
 
-#[derive(Drop)]
+#[derive(Clone, Copy)]
 pub enum NominalKind {
     Class,
     Struct,
@@ -42,7 +43,7 @@ pub enum NominalKind {
 }
 
 // The depth and the index of a generic parameter.
-#[derive(Drop)]
+#[derive(Clone, Copy)]
 pub struct Param {
     pub depth: usize,
     pub index: usize,
@@ -52,7 +53,7 @@ pub struct Param {
 // names.
 
 // A node that is pushed as it is.
-#[derive(Drop)]
+#[derive(Clone, Copy)]
 pub enum Leaf {
     Module(usize),
     StandardNominal(NominalKind, usize),
@@ -65,7 +66,7 @@ pub enum Leaf {
 }
 
 // What a requirement constrains: a parameter, a type on the stack, a member type of a parameter.
-#[derive(Drop)]
+#[derive(Clone, Copy)]
 pub enum Subject {
     OfParam(Param),
     OfStack,
@@ -74,7 +75,7 @@ pub enum Subject {
 
 // The kind of constraint. For a layout, whether its letter is valid: this is judged after the
 // stack.
-#[derive(Drop)]
+#[derive(Clone, Copy)]
 pub enum Constraint {
     Conforms,
     Superclass,
@@ -83,7 +84,7 @@ pub enum Constraint {
 }
 
 // The letter of `v`: the variable itself, an accessor, or a letter that is refused after the stack.
-#[derive(Drop)]
+#[derive(Clone, Copy)]
 pub enum Accessor {
     Itself,
     Named(usize),
@@ -91,7 +92,7 @@ pub enum Accessor {
 }
 
 // The subject of a record.
-#[derive(Drop)]
+#[derive(Clone, Copy)]
 pub enum About {
     Type,
     Entity,
@@ -102,7 +103,7 @@ pub enum About {
 }
 
 // One operator other than `A`, whose letters are read and performed one by one.
-#[derive(Drop)]
+#[derive(Clone, Copy)]
 pub enum Operator {
     Nominal(NominalKind),
     Leaf(Leaf),

@@ -3,6 +3,7 @@
 // speak of the answers that are still to be written (`owed` in line_forms/specs/Lines.antt). It is
 // assumed of the system that a read stores the input's next bytes in the slice, and that a write
 // writes the slice.
+#![tactic(auto)]
 ghost use Rattle.std.specs.Prelude.{◌≡◌, ◌≤◌, ◌<◌, ◌^◌, length};
 ghost use Rattle.text_parts.specs.Copied.{copied};
 ghost use Rattle.line_forms.specs.Lines.{Clear};
@@ -17,7 +18,7 @@ const STDERR: i32 = 2;
 
 // What is done next: input is read; the contents of the buffer are answered; or nothing, because
 // all is answered, or because a read or a write failed.
-#[derive(Drop)]
+#[derive(Clone, Copy)]
 pub enum Next {
     Read,
     Answer,
@@ -28,7 +29,7 @@ pub enum Next {
 
 // How much of a text was read and how many bytes its answers have; whether the rest of the text
 // continues a line that is already answered; and what is done next.
-#[derive(Drop)]
+#[derive(Clone, Copy)]
 pub struct Turn {
     pub read: usize,
     pub written: usize,
@@ -39,7 +40,7 @@ pub struct Turn {
 // A program between two steps. The bytes of the buffer from `from` to `end` are not answered yet.
 // `inside`: they continue a line that is already answered. `ended`: nothing follows them.
 // `written`: how many bytes of the output slice were written last.
-#[derive(Drop)]
+#[derive(Clone, Copy)]
 pub struct State {
     pub from: usize,
     pub end: usize,
@@ -50,7 +51,7 @@ pub struct State {
 }
 
 // The result of a read.
-#[derive(Drop)]
+#[derive(Clone, Copy)]
 pub enum Got {
     Bytes(usize),
     Ended,
@@ -59,7 +60,7 @@ pub enum Got {
 
 // A line that has no newline in the buffer: it is the last one; it is longer than any line that is
 // read; more of it has to be read first; or there is none, because the input has ended.
-#[derive(Drop)]
+#[derive(Clone, Copy)]
 pub enum Rest {
     Last,
     Long,

@@ -1,4 +1,5 @@
 // The forms of an answer line of the programs `names` and `shapes` (specs/Lines.antt).
+#![tactic(auto)]
 
 // Where a line ends.
 pub mod ends;
@@ -15,7 +16,7 @@ use text_output::put_byte;
 pub const LINE: usize = 4096;
 
 // What is asked for each line: the text of a symbol, or its shape.
-#[derive(Drop)]
+#[derive(Clone, Copy)]
 pub enum Asked {
     Name,
     Shape,

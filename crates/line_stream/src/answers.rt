@@ -85,7 +85,7 @@ pub fn answer_line(asked: Asked, line: &[u8], ws: &mut [u32], out: &mut [u8], at
 }
 
 // The number of bytes of the input that were answered, and the number of bytes of their answers.
-#[derive(Drop)]
+#[derive(Clone, Copy)]
 pub struct Progress {
     pub read: usize,
     pub written: usize,

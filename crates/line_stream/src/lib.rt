@@ -3,6 +3,7 @@
 // for all that was read (`Stepped` in crates/line_buffers/specs/Buffers). `run_answers`
 // (proofs/Runs.antt) says so for all steps together. What a read stores, and that a write writes,
 // is assumed of the system.
+#![tactic(auto)]
 
 // The answer to a line, and to the lines of a buffer.
 pub mod answers;

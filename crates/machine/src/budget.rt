@@ -6,7 +6,7 @@ ghost use Rattle.machine.specs.Spent.{Spending, budget_of};
 use definition::Refusal;
 
 // The number of turns of `run`, the sum of all charges, and the number of wraps.
-#[derive(Drop)]
+#[derive(Clone, Copy)]
 pub struct Budget {
     pub steps: usize,
     pub total: usize,
@@ -14,7 +14,7 @@ pub struct Budget {
 }
 
 // The budget after a count was increased.
-#[derive(Drop)]
+#[derive(Clone, Copy)]
 pub enum Spent {
     Left(Budget),
     Refused(Refusal),

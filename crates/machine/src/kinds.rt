@@ -4,7 +4,7 @@ ghost use Rattle.definition.specs.Kind as K;
 ghost use Rattle.machine.specs.Wanted.{want_of};
 
 // The kinds that can be wanted on top of the stack.
-#[derive(Drop)]
+#[derive(Clone, Copy)]
 pub enum Want {
     Anything,
     Type,

@@ -1,4 +1,5 @@
 // What the machines of the reading and of the check share.
+#![tactic(auto)]
 
 // Steps, charged total and wraps, with their limits.
 pub mod budget;

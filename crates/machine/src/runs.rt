@@ -4,7 +4,7 @@ ghost use Rattle.std.specs.Prelude.{◌≡◌};
 ghost use Rattle.machine.specs.RunEnds.{kinds_of};
 
 // What a call accepts at its end: a symbol (all but a bare identifier), or a type.
-#[derive(Drop)]
+#[derive(Clone, Copy)]
 pub enum Final {
     Symbol,
     Type,
@@ -12,7 +12,7 @@ pub enum Final {
 
 // That many numbers were written to the front of the output slice; or there are more than it holds,
 // and none was written.
-#[derive(Drop)]
+#[derive(Clone, Copy)]
 pub enum Written {
     Numbers(usize),
     Past,

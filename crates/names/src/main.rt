@@ -1,5 +1,6 @@
 // Each line of standard input is a symbol. Its text, or its refusal, is a line of standard output
 // (crates/line_forms/specs/Lines.antt).
+#![tactic(auto)]
 use line_forms::Asked;
 
 fn main() {

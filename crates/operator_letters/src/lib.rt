@@ -1,4 +1,5 @@
 // Reads the letters and operands of one operator.
+#![tactic(auto)]
 ghost use Rattle.std.specs.Prelude.{◌≡◌, false, ◌+◌, ◌≤◌, ◌<◌, length, get_or, drop};
 ghost use Rattle.definition.specs.Operators as Op;
 ghost use Rattle.definition.specs.Enums as Enums;
@@ -17,7 +18,7 @@ use operator_operands::standard_types::standard;
 use text_cursor::{Byte, Cursor, Number, ParamRead};
 
 // The subject of a requirement.
-#[derive(Drop)]
+#[derive(Clone, Copy)]
 pub enum SubjectRead {
     Read(Subject, Cursor),
     Refused(Refusal),

@@ -1,11 +1,13 @@
 // The fixed names, which are all the texts that operators supply, followed by the texts that the
 // printer supplies: 171 of them, as words of eight bytes. An item is found by its number with a
 // `match`, because a constant array is copied at each use.
+#![tactic(auto)]
+
 ghost use Rattle.std.specs.Prelude.{◌≡◌, ◌≤◌, ◌<◌, get_or};
 ghost use Rattle.operator_names.specs.Words.{words, places, Named};
 
 // A part of the words: the index of its first word, and its length in bytes.
-#[derive(Drop)]
+#[derive(Clone, Copy)]
 pub struct Part {
     pub first: usize,
     pub len: usize,

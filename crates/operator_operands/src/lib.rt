@@ -1,4 +1,5 @@
 // What follows the first letter of an operator, and the result of reading an operator.
+#![tactic(auto)]
 
 // What follows `r`.
 pub mod signatures;
@@ -13,7 +14,7 @@ use text_cursor::Cursor;
 
 // An operator and the next cursor; `A`, whose letters are read one by one from the cursor on; or a
 // refusal.
-#[derive(Drop)]
+#[derive(Clone, Copy)]
 pub enum OperatorRead {
     Read(Operator, Cursor),
     Substitutions(Cursor),

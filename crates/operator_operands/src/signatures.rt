@@ -10,7 +10,7 @@ use machine::budget::Budget;
 use text_cursor::{Cursor, Number};
 
 // One turn of the counts after `r`.
-#[derive(Drop)]
+#[derive(Clone, Copy)]
 pub enum CountRead {
     Closed(Cursor),
     Count(usize, Cursor),

@@ -1,4 +1,6 @@
 // `A`: substitutions.
+#![tactic(auto)]
+
 ghost use Rattle.std.specs.Prelude.{◌≡◌, false, ℕ, ◌+◌, ◌<◌, drop};
 ghost use Rattle.std.proofs.Math.Option.{Option, some};
 ghost use Rattle.definition.specs.Base.{digit};
@@ -10,7 +12,7 @@ use text_cursor::{Cursor, Number, is_lower, is_upper, wide};
 
 // The next item after `A`: the number of copies and the index of the remembered node, whether the
 // item is the last, and the next cursor.
-#[derive(Drop)]
+#[derive(Clone, Copy)]
 pub enum SubstitutionRead {
     Copies(usize, usize, bool, Cursor),
     Broken(Refusal),

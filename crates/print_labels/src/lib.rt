@@ -1,4 +1,5 @@
 // The labels that the printer shows before arguments.
+#![tactic(auto)]
 ghost use Rattle.std.specs.Prelude.{◌≡◌, ◌+◌, ◌*◌, ◌≤◌, ◌<◌, ◌^◌, length};
 ghost use Rattle.text_output.specs.Sink.{Room};
 ghost use Rattle.text_words.specs.Table.{lent};
@@ -13,7 +14,7 @@ use tree_records::{field, wide};
 
 // The labels of a function that are still to be used: how many cells, and the field of the record
 // at host that has the place of the first.
-#[derive(Drop)]
+#[derive(Clone, Copy)]
 pub struct Labels {
     host: usize,
     field: usize,

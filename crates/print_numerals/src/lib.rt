@@ -1,4 +1,6 @@
 // Numbers as digits and as letters, and the names of generic parameters.
+#![tactic(auto)]
+
 ghost use Rattle.std.specs.Prelude.{◌+◌, ◌<◌};
 ghost use Rattle.definition.specs.Base.{decimal};
 ghost use Rattle.definition.specs.Print.{generic_param_name, param_letters};

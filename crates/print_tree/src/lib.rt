@@ -3,6 +3,7 @@
 // names, children, lists, and pieces that depend on numbers in the record. `print` looks up the row
 // by the form of the record and appends its pieces. specs/RowTexts.antt of `print_labels` says what
 // each code represents.
+#![tactic(auto)]
 ghost use Rattle.std.specs.Prelude.{◌≡◌, true, false, ◌+◌, ◌*◌, ◌≤◌, ◌<◌, ◌^◌, length};
 ghost use Rattle.text_output.specs.Sink.{Room, Wrote};
 ghost use Rattle.text_words.specs.Table.{lent};
@@ -23,7 +24,7 @@ use tree_records::field;
 
 // The cells of a list: how many, the field that has the place of the first, the number of the text
 // between them, and whether labels are shown.
-#[derive(Drop)]
+#[derive(Clone, Copy)]
 struct ListForm {
     field: usize,
     count: usize,

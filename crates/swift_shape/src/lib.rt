@@ -1,6 +1,7 @@
 // The calls of the shape check for users: a symbol or a type, whole or stopped after k operators.
 // They have no `requires`: every text, ceiling, k and slice is answered as the definition answers
 // it.
+#![tactic(auto)]
 
 // The run over a text's body, and the answer at its end.
 pub mod body;

@@ -1,4 +1,5 @@
 // The text and a cursor into it: bytes, numbers and indices.
+#![tactic(auto)]
 ghost use Rattle.std.specs.Prelude.{◌≡◌, ℕ, ◌+◌, ◌≤◌, ◌<◌, eqb, length, drop};
 ghost use Rattle.definition.specs.Base.{digit, lower, upper};
 ghost use Rattle.definition.specs.Text as Text;
@@ -7,31 +8,31 @@ ghost use Rattle.text_cursor.specs.Cursor.{Looked, Byted, Numbered, Counted, Par
 use definition::{Param, Refusal};
 
 // A place in a text.
-#[derive(Drop)]
+#[derive(Clone, Copy)]
 pub struct Cursor {
     pub at: usize,
 }
 
 // Whether a byte was taken, and the next cursor.
-#[derive(Drop)]
+#[derive(Clone, Copy)]
 pub struct Taken {
     pub taken: bool,
     pub next: Cursor,
 }
 
-#[derive(Drop)]
+#[derive(Clone, Copy)]
 pub enum Byte {
     Read(u8, Cursor),
     Refused(Refusal),
 }
 
-#[derive(Drop)]
+#[derive(Clone, Copy)]
 pub enum Number {
     Read(usize, Cursor),
     Refused(Refusal),
 }
 
-#[derive(Drop)]
+#[derive(Clone, Copy)]
 pub enum ParamRead {
     Read(Param, Cursor),
     Refused(Refusal),

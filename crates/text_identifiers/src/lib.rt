@@ -1,4 +1,5 @@
 // Identifiers, with the words as a table or as a count. The whole text is well-formed.
+#![tactic(auto)]
 ghost use Rattle.std.specs.Prelude.{◌≡◌, true, false, ℕ, ◌+◌, ◌-◌, ◌≤◌, ◌<◌, length, drop};
 ghost use Rattle.definition.specs.Text as Text;
 ghost use Rattle.definition.specs.Words as W;
@@ -14,14 +15,14 @@ use text_words::{Words, count_words, note_words};
 
 // The result of word letters: whether the name is empty, whether letters may follow, and the next
 // cursor.
-#[derive(Drop)]
+#[derive(Clone, Copy)]
 enum Letters {
     Read(bool, bool, Cursor),
     Refused(Refusal),
 }
 
 // The position of the bytes of a literal: text[from..to].
-#[derive(Drop)]
+#[derive(Clone, Copy)]
 pub enum Extent {
     Read(usize, usize),
     Refused(Refusal),
@@ -29,27 +30,27 @@ pub enum Extent {
 
 // The result of one round of an identifier: the closing `0`, with whether the name is empty; or a
 // literal, with whether the name before it is empty, whether letters may follow, and its position.
-#[derive(Drop)]
+#[derive(Clone, Copy)]
 enum Piece {
     Closed(bool, Cursor),
     Literal(bool, bool, usize, usize),
     Refused(Refusal),
 }
 
-#[derive(Drop)]
+#[derive(Clone, Copy)]
 pub enum NameRead {
     Read(Cursor),
     Refused(Refusal),
 }
 
 // An identifier, and the words known after it.
-#[derive(Drop)]
+#[derive(Clone, Copy)]
 pub struct Identified {
     pub read: NameRead,
     pub words: Words,
 }
 
-#[derive(Drop)]
+#[derive(Clone, Copy)]
 pub enum CountRead {
     Read(usize, Cursor),
     Refused(Refusal),

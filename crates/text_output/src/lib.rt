@@ -1,5 +1,7 @@
 // Appending bytes to a lent slice, limited by room (specs/Sink.antt); with an empty slice this only
 // measures. Also storing the bytes of a word in the slice.
+#![tactic(auto)]
+
 ghost use Rattle.std.specs.Prelude.{◌≡◌, ◌+◌, ◌≤◌, ◌∷◌, [], length};
 ghost use Rattle.std.proofs.lemmas.List.Edits.{sets};
 ghost use Rattle.text_output.specs.Sink.{part, Room, Wrote, low_bytes};

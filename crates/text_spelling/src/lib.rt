@@ -1,4 +1,5 @@
 // A name that is spelled again from its place in the text, using the table of words.
+#![tactic(auto)]
 
 // A name's segments, one after another.
 pub mod segments;

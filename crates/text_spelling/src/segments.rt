@@ -9,7 +9,7 @@ ghost use Rattle.text_spelling.specs.SegmentsRead.{Begun, SegmentIs, Passed};
 use text_cursor::{Cursor, Number, is_lower, is_upper, natural, next_if};
 
 // A cursor into an identifier: whether word letters may follow, and whether it is punycode.
-#[derive(Drop)]
+#[derive(Clone, Copy)]
 pub struct Speller {
     at: usize,
     more: bool,
@@ -17,7 +17,7 @@ pub struct Speller {
 }
 
 // What is at the cursor: the bytes text[from..to], with the next cursor; or the end.
-#[derive(Drop)]
+#[derive(Clone, Copy)]
 pub enum Segment {
     Part(usize, usize, Speller),
     End,

@@ -79,7 +79,7 @@ pass {text} {from} {at} (suc n) to e s l h =
     let o : from ≤ at = s.onward in
     let next : Seeking text from (at + 1) = record { inside = omega arith; onward = omega arith; same_end = omega (arith, s.same_end, d) } in
     let rest : Each no_dot text (at + 1) to = record { at = λ j g r. h.at j (omega arith) r } in
-    pass n to (omega arith) next l rest
+    pass {at = at + 1} n to (omega arith) next l rest
 
 pub seek_past : (text : Text) (from at : ℕ) → (from ≤ at) × (at ≤ length text) × Each no_dot text from at → Seeking text from at
 seek_past text from at h = pass (at - from) at (omega (arith, h.0)) (record { inside = omega (arith, h.0, h.1); onward = omega arith; same_end = refl }) h.1 h.2

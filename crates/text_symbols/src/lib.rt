@@ -1,4 +1,6 @@
 // The parts of a symbol: prefix, body and suffix.
+#![tactic(auto)]
+
 ghost use Rattle.std.specs.Prelude.{◌≡◌, true, ◌+◌, ◌≤◌, length, take, drop};
 ghost use Rattle.definition.specs.Base.{same};
 ghost use Rattle.definition.specs.Text as Text;
@@ -6,14 +8,14 @@ ghost use Rattle.text_cursor.specs.Each.{Each};
 ghost use Rattle.text_symbols.specs.Symbol.{no_dot, PrefixIs, Ends, SplitIs};
 
 // The length of the prefix.
-#[derive(Drop)]
+#[derive(Clone, Copy)]
 pub enum Prefixed {
     By(usize),
     Not,
 }
 
 // A symbol's body is text[start..end], its suffix text[end..].
-#[derive(Drop)]
+#[derive(Clone, Copy)]
 pub enum Symbol {
     Parts { start: usize, end: usize },
     Not,

@@ -148,7 +148,7 @@ scan_ascii {text} {at} zero to e s l h = let k : at ≡ to = omega arith in subs
 scan_ascii {text} {at} (suc n) to e s l h =
     let b : get_or text at 0 < 128 = ltb-true _ _ (h.at at (omega arith) (omega arith)) in
     let one = scan_more s (omega arith) {next = at + 1} (record { is = character_ascii (get_or text at 0) (drop (at + 1) text) b; inside = omega arith; onward = omega arith }) in
-    scan_ascii n to (omega arith) one l (record { at = λ i g r. h.at i (omega arith) r })
+    scan_ascii {at = at + 1} n to (omega arith) one l (record { at = λ i g r. h.at i (omega arith) r })
 
 pub scan_past : {text : Text} {at r : ℕ} → Scanning text at → (at ≤ r) × (r ≤ length text) × Each below_80 text at r → Scanning text r
 scan_past {text} {at} {r} s h = scan_ascii (r - at) r (omega (arith, h.0)) s h.1 h.2

@@ -1,4 +1,6 @@
 // UTF-8.
+#![tactic(auto)]
+
 ghost use Rattle.std.specs.Prelude.{◌≡◌, true, ◌+◌, ◌-◌, ◌≤◌, ◌<◌, length, get_or, take, drop};
 ghost use Rattle.definition.specs.Base as Base;
 ghost use Rattle.definition.specs.Text as Text;
@@ -7,21 +9,21 @@ ghost use Rattle.text_cursor.specs.Each.{Each};
 ghost use Rattle.text_utf8.specs.Utf8.{below_80, RowIs, Passed, Placed, row_at};
 
 // The place of the first ill-formed sequence.
-#[derive(Drop)]
+#[derive(Clone, Copy)]
 pub enum IllFormed {
     At(usize),
     Nowhere,
 }
 
 // The number of a row of the UTF-8 table.
-#[derive(Drop)]
+#[derive(Clone, Copy)]
 enum RowFound {
     Row(usize),
     Nothing,
 }
 
 // The place after what was read.
-#[derive(Drop)]
+#[derive(Clone, Copy)]
 enum Behind {
     At(usize),
     Broken,

@@ -1,4 +1,5 @@
 // The table of the words that later identifiers use again.
+#![tactic(auto)]
 
 // Literals whose words are not noted yet.
 pub mod waiting;
@@ -12,7 +13,7 @@ ghost use Rattle.text_words.specs.Table.{part, table, Fitting, Holds, Turns};
 use text_cursor::{is_digit, is_upper};
 
 // The words: where each starts in the text, and how long it is.
-#[derive(Drop)]
+#[derive(Clone, Copy)]
 pub struct Words {
     pub starts: [u16; 26],
     pub lengths: [u16; 26],
@@ -56,7 +57,7 @@ fn is_kept(ended: bool, count: usize, start: usize, at: usize) -> bool
 }
 
 // The effect of a byte on the open word.
-#[derive(Drop)]
+#[derive(Clone, Copy)]
 struct Boundary {
     pub ended: bool,
     pub start: usize,

@@ -10,7 +10,7 @@ ghost use Rattle.text_words.specs.Waits.{noted_behind, Waits, More};
 use crate::{Words, count_words, note_words};
 
 // The literals in order: where each starts in the text, and how long it is.
-#[derive(Drop)]
+#[derive(Clone, Copy)]
 pub struct Waiting {
     pub starts: [u16; 16],
     pub lengths: [u16; 16],

@@ -1,5 +1,6 @@
 // What is left at the end of the reading's run: the one tree of a whole run, and the entries that a
 // stopped run writes.
+#![tactic(auto)]
 ghost use Rattle.std.specs.Prelude.{map, reverse};
 ghost use Rattle.definition.specs.Calls as Calls;
 ghost use Rattle.definition.specs.Node.{entry_of};
@@ -13,7 +14,7 @@ use machine::runs::{Final, Written};
 use tree_records::State;
 
 // The place of the only tree that is left, if its kind is accepted.
-#[derive(Drop)]
+#[derive(Clone, Copy)]
 pub enum Sole {
     At(usize),
     Nothing,

@@ -11,7 +11,7 @@ use tree_records::{Fields, Popped, State};
 
 // The place of the first label's cell, and the number of labels plus 1; 0 and 0 if the function has
 // no labels of its own.
-#[derive(Drop)]
+#[derive(Clone, Copy)]
 pub enum LabelsTaken {
     Labels(u32, u32, State),
     Nothing,

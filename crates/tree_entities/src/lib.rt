@@ -1,4 +1,5 @@
 // The effects of the entity operators on the records: the functions of the Rust under their names.
+#![tactic(auto)]
 
 // A function's labels.
 pub mod labels;
@@ -21,14 +22,14 @@ use tree_parts::entity::{leave_variable, push_entity, push_over};
 use tree_records::{Fields, Popped, State};
 
 // The place of a signature, if there is one.
-#[derive(Drop)]
+#[derive(Clone, Copy)]
 pub enum Signature {
     At(usize),
     Nothing,
 }
 
 // A signature that was on top, if there was one, and the state without it.
-#[derive(Drop)]
+#[derive(Clone, Copy)]
 pub struct Signed {
     pub signature: Signature,
     pub next: State,

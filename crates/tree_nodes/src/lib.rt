@@ -1,5 +1,6 @@
 // What operators take from the stack and push on it, on records; and the operators that put one
 // node over the top.
+#![tactic(auto)]
 ghost use Rattle.std.specs.Prelude.{◌≡◌, List, [], ◌∷◌, ℕ, ◌+◌, ◌*◌, ◌≤◌, ◌<◌, eqb, length};
 ghost use Rattle.definition.specs.Base.{bytes, if◌then◌else◌};
 ghost use Rattle.definition.specs.Enums as Enums;
@@ -19,42 +20,42 @@ use machine::kinds::Want;
 use tree_records::{Fields, Popped, State};
 
 // Whether a marker was on top, and the state without it.
-#[derive(Drop)]
+#[derive(Clone, Copy)]
 pub struct Marked {
     pub taken: bool,
     pub next: State,
 }
 
 // The number of a name that was on top, and the state without it.
-#[derive(Drop)]
+#[derive(Clone, Copy)]
 pub enum NameTaken {
     Name(u32, State),
     Nothing,
 }
 
 // The place of a tree that is made of what was taken, and the state after that.
-#[derive(Drop)]
+#[derive(Clone, Copy)]
 pub enum Built {
     Place(usize, State),
     Refused(Refusal),
 }
 
 // The place of a node that was made, and the state after that.
-#[derive(Drop)]
+#[derive(Clone, Copy)]
 pub struct Placed {
     pub place: usize,
     pub next: State,
 }
 
 // The result of an operator.
-#[derive(Drop)]
+#[derive(Clone, Copy)]
 pub enum Step {
     Done(State),
     Refused(Refusal),
 }
 
 // The state after one more wrap.
-#[derive(Drop)]
+#[derive(Clone, Copy)]
 pub enum WrapSpent {
     Next(State),
     Refused,

@@ -1,4 +1,5 @@
 // Records over trees that were taken.
+#![tactic(auto)]
 
 // The records of entities.
 pub mod entity;

@@ -15,7 +15,7 @@ use tree_nodes::Built;
 use tree_records::{Fields, Popped, State};
 
 // The form of an associated conformance with the cell of its qualifier, and the state after that.
-#[derive(Drop)]
+#[derive(Clone, Copy)]
 pub struct Qualified {
     pub form: u32,
     pub cell: u32,

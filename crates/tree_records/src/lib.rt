@@ -1,5 +1,6 @@
 // Trees as records in a lent workspace of 32-bit numbers: 8 numbers for each record, children given
 // by place.
+#![tactic(auto)]
 ghost use Rattle.std.specs.Prelude.{◌≡◌, List, [], ◌∷◌, ◌+◌, ◌*◌, ◌^◌, ◌≤◌, ◌<◌, length};
 ghost use Rattle.tree_records.specs.Lies.{at};
 ghost use Rattle.tree_records.specs.Made.{Wrote};
@@ -8,7 +9,7 @@ ghost use Rattle.tree_records.specs.Holds.{Inside, Pops, Grew, Pushed, Remembere
 use machine::budget::Budget;
 
 // The counts, the number of records, and the numbers of places on the stack and remembered.
-#[derive(Drop)]
+#[derive(Clone, Copy)]
 pub struct State {
     pub budget: Budget,
     pub top: usize,
@@ -17,14 +18,14 @@ pub struct State {
 }
 
 // The place of the top tree, and the state without it.
-#[derive(Drop)]
+#[derive(Clone, Copy)]
 pub enum Popped {
     Place(usize, State),
     Nothing,
 }
 
 // The fields of a record after its kind, size and count.
-#[derive(Drop)]
+#[derive(Clone, Copy)]
 pub struct Fields {
     pub a: u32,
     pub b: u32,

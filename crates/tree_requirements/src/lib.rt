@@ -1,4 +1,5 @@
 // The requirements of a generic signature.
+#![tactic(auto)]
 ghost use Rattle.std.specs.Prelude.{[], ◌∷◌, ◌+◌};
 ghost use Rattle.definition.specs.Enums as E;
 ghost use Rattle.definition.specs.declared.Constraint.TheVariants as Constraint;

@@ -1,4 +1,5 @@
 // The reading's run, one turn after another: whole, or stopped after k operators.
+#![tactic(auto)]
 
 // One operator by its letters.
 pub mod perform;
@@ -19,14 +20,14 @@ use tree_records::State;
 
 // The state at the end of a run; or the refusal, and the place in the body where the refused
 // operator begins.
-#[derive(Drop)]
+#[derive(Clone, Copy)]
 pub enum Ended {
     Ran(State),
     Stopped(Refusal, usize),
 }
 
 // The end of a run, and the words that names are then spelled with.
-#[derive(Drop)]
+#[derive(Clone, Copy)]
 pub struct Reached {
     pub end: Ended,
     pub words: Words,

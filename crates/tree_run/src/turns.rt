@@ -23,14 +23,14 @@ use tree_nodes::Step;
 use tree_records::{Fields, State};
 
 // The state after an operator and the cursor after it, or its refusal.
-#[derive(Drop)]
+#[derive(Clone, Copy)]
 pub enum Turned {
     To(State, Cursor),
     Refused(Refusal),
 }
 
 // One item after `A` was performed: more follow, it was the last, or it is refused.
-#[derive(Drop)]
+#[derive(Clone, Copy)]
 pub enum Letter {
     More(State, Cursor),
     Last(State, Cursor),
@@ -38,14 +38,14 @@ pub enum Letter {
 }
 
 // The beginning of a turn: its step is counted and its node is charged.
-#[derive(Drop)]
+#[derive(Clone, Copy)]
 pub enum Begun {
     Next(State),
     Refused(Refusal),
 }
 
 // A turn that reads a name, and the words known after it.
-#[derive(Drop)]
+#[derive(Clone, Copy)]
 pub struct NameTurned {
     pub turn: Turned,
     pub words: Words,
@@ -53,7 +53,7 @@ pub struct NameTurned {
 
 // A turn that reads a literal as a name: the state, the start of the literal, and the cursor after
 // it; or its refusal.
-#[derive(Drop)]
+#[derive(Clone, Copy)]
 pub enum PlainTurned {
     To(State, usize, Cursor),
     Refused(Refusal),

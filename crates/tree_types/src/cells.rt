@@ -9,7 +9,7 @@ use tree_records::{Fields, Popped, State};
 
 // A list that was taken from the stack: the number of nodes, the sum of their sizes, and the place
 // of the first cell.
-#[derive(Drop)]
+#[derive(Clone, Copy)]
 pub struct Chain {
     pub count: u32,
     pub sum: u32,
@@ -17,7 +17,7 @@ pub struct Chain {
 }
 
 // A list with one more cell, and the state with its record.
-#[derive(Drop)]
+#[derive(Clone, Copy)]
 pub struct Added {
     pub list: Chain,
     pub next: State,
@@ -25,7 +25,7 @@ pub struct Added {
 
 // The number of a label that was on top, or 4,294,967,295 if there was none, and the state without
 // it.
-#[derive(Drop)]
+#[derive(Clone, Copy)]
 pub struct LabelTaken {
     pub label: u32,
     pub next: State,

@@ -1,5 +1,6 @@
 // The effects of the operators that make types on the records: the functions of the Rust under
 // their names.
+#![tactic(auto)]
 
 // Lists in cells.
 pub mod cells;
@@ -20,7 +21,7 @@ use tree_nodes::{NameTaken, Step, WrapSpent};
 use tree_records::{Fields, Popped, State};
 
 // The result of one round of a list.
-#[derive(Drop)]
+#[derive(Clone, Copy)]
 pub enum Round {
     More(Chain, State),
     Last(Chain, State),
@@ -28,7 +29,7 @@ pub enum Round {
 }
 
 // A whole list, and the state without its nodes.
-#[derive(Drop)]
+#[derive(Clone, Copy)]
 pub enum Listing {
     Cells(Chain, State),
     Nothing,
@@ -36,7 +37,7 @@ pub enum Listing {
 
 // The lists: the elements of a tuple, the arguments of a generic type, the requirements of a
 // signature, the members of a protocol list.
-#[derive(Drop)]
+#[derive(Clone, Copy)]
 pub enum Lists {
     Elements,
     Arguments,

@@ -1,3 +1,4 @@
+#![tactic(auto)]
 ghost use Rattle.std.specs.Prelude.{◌≡◌, ◌≤◌, ◌<◌, length};
 // Answers the lines of standard input, each on a line of standard output.
 //
@@ -14,7 +15,7 @@ use definition::Answer;
 use text_cursor::{Cursor, Number};
 
 // A number of a case, and the place after the tab that follows it.
-#[derive(Drop)]
+#[derive(Clone, Copy)]
 struct Column {
     value: usize,
     next: usize,

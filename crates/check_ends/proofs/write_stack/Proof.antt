@@ -6,47 +6,47 @@ use borrow.Author.Rules.{rules}
 use Rattle.check_ends.proofs.write_stack.Statement.{statement}
 use Rattle.check_ends.proofs.write_stack.Tie as tie
 
-abbrev invariant-loop : tie.invariant-loop
+abbrev invariant-loop : tie.invariant-loop-j
 invariant-loop ws out₀ depth n j₀ out j = Copying ws out₀ out j × (j ≤ n)
 
-abbrev decreases-loop : tie.decreases-loop
+abbrev decreases-loop : tie.decreases-loop-j
 decreases-loop ws out₀ depth n j₀ out j = n - j
 
-mul-n : tie.Need-overflow-mul-n invariant-loop decreases-loop
+mul-n : tie.Need-overflow_mul-n invariant-loop decreases-loop
 mul-n c = search rules
 
-returns : tie.Need-returns invariant-loop decreases-loop
-returns c = too_many c.before.args.ws.now c.before.args.st.depth c.before.requires (omega (arith, c.if1.true))
+returns : tie.Need-returns-then-out-n invariant-loop decreases-loop
+returns c = too_many c.args.ws.now c.args.st.depth c.requires (omega (arith, c.if-out-n.true))
 
-loop-holds : tie.Need-loop-init invariant-loop decreases-loop
-loop-holds c = (no_numbers c.before.args.ws.now c.before.args.out.now, omega arith)
+loop-holds : tie.Need-loop-j-init invariant-loop decreases-loop
+loop-holds c = (no_numbers c.args.ws.now c.args.out.now, omega arith)
 
-mul-out : tie.Need-overflow-mul-out invariant-loop decreases-loop
+mul-out : tie.Need-offset_bounds-ws-j invariant-loop decreases-loop
 mul-out c = search rules
 
-shared-slice-read-out : tie.Need-shared-slice-read-out invariant-loop decreases-loop
-shared-slice-read-out c = omega (arith, c.before.before.before.before.requires)
+shared-slice-read-out : tie.Need-bounds-ws-j invariant-loop decreases-loop
+shared-slice-read-out c = omega (arith, c.requires)
 
-mul-out-2 : tie.Need-overflow-mul-out-2 invariant-loop decreases-loop
+mul-out-2 : tie.Need-offset_bounds-out-j invariant-loop decreases-loop
 mul-out-2 c = search rules
 
-slice-write-out : tie.Need-slice-write-out invariant-loop decreases-loop
-slice-write-out c = omega (arith, c.before.before.loop.invariant.0.long, c.before.before.before.if1.false)
+slice-write-out : tie.Need-bounds-out-j invariant-loop decreases-loop
+slice-write-out c = omega (arith, c.loop-j.invariant.0.long, c.if-out-n.false)
 
-add-j : tie.Need-overflow-add-j invariant-loop decreases-loop
+add-j : tie.Need-overflow_add-j invariant-loop decreases-loop
 add-j c = omega arith
 
-loop-less : tie.Need-loop-smaller invariant-loop decreases-loop
+loop-less : tie.Need-loop-j-smaller invariant-loop decreases-loop
 loop-less c = omega arith
 
-loop-again : tie.Need-loop-preserved invariant-loop decreases-loop
-loop-again c = (one_number c.before.before.loop.invariant.0 (omega (arith, c.before.before.before.before.requires)) (omega (arith, c.before.before.before.if1.false)), omega arith)
+loop-again : tie.Need-loop-j-preserved invariant-loop decreases-loop
+loop-again c = (one_number c.loop-j.invariant.0 (omega (arith, c.requires)) (omega (arith, c.if-out-n.false)), omega arith)
 
-same_length : tie.Need-same-length invariant-loop decreases-loop
-same_length c = c.before.loop.invariant.0.long
+same_length : tie.Need-shape_of-out invariant-loop decreases-loop
+same_length c = c.loop-j.invariant.0.long
 
-returns-2 : tie.Need-returns-2 invariant-loop decreases-loop
-returns-2 c = all_numbers c.before.before.before.args.ws.now c.before.before.before.args.st.depth c.before.before.before.requires c.before.loop.j (omega arith) (omega (arith, c.before.loop.invariant.1)) (omega arith) c.before.loop.invariant.0.is
+returns-2 : tie.Need-returns invariant-loop decreases-loop
+returns-2 c = all_numbers c.args.ws.now c.args.st.depth c.requires c.loop-j.j (omega arith) (omega (arith, c.loop-j.invariant.1)) (omega arith) c.loop-j.invariant.0.is
 
 pub write_stack_spec : {M : Type 1} → statement M
 write_stack_spec =

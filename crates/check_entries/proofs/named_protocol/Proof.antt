@@ -10,20 +10,20 @@ use Rattle.check_entries.proofs.named_protocol.Tie as tie
 context-requires : tie.Need-context-requires
 context-requires c κs = search rules
 
-enum-known-c : tie.Need-enum-known-c
+enum-known-c : tie.Need-enum_known-c
 enum-known-c c = search rules
 
-add-t8 : tie.Need-overflow-add-t8
-add-t8 c = omega (arith, (popped_top c.before.before.c.given.1 c.before.before.before.before.context.ensures).lighter, c.before.before.before.before.before.before.requires.light)
+add-t8 : tie.Need-overflow_add-result
+add-t8 c = omega (arith, (popped_top c.in-Top.is c.context.ensures).lighter, c.requires.light)
 
-enum-known-r : tie.Need-enum-known-r
+enum-known-r : tie.Need-enum_known-r
 enum-known-r c = search rules
 
-returns : tie.Need-returns
-returns c = next _ (popped_top c.before.before.c.given.1 c.before.before.before.before.context.ensures) (stays (K.entry 5 (1 + c.before.before.c.given.0.0.size) 0)) (omega arith) (omega arith)
+returns : tie.Need-returns-in-Top
+returns c = next _ (popped_top c.in-Top.is c.context.ensures) (stays (K.entry 5 (1 + c.in-Top.c.size) 0)) (omega arith) (omega arith)
 
-returns-2 : tie.Need-returns-2
-returns-2 c = refuses _ (popped_refused c.before.r.given.1 c.before.before.before.context.ensures)
+returns-2 : tie.Need-returns-in-Refused
+returns-2 c = refuses _ (popped_refused c.in-Refused.is c.context.ensures)
 
 pub named_protocol_spec : {M : Type 1} → statement M
 named_protocol_spec =

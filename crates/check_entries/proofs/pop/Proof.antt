@@ -4,7 +4,7 @@ use borrow.Author.Rules.{rules}
 use Rattle.check_entries.proofs.pop.Statement.{statement}
 use Rattle.check_entries.proofs.pop.Tie as tie
 
-pop-if-requires : tie.Need-pop-if-requires
+pop-if-requires : tie.Need-pop_if-requires
 pop-if-requires c κs = search rules
 
 returns : tie.Need-returns

@@ -8,23 +8,23 @@ use borrow.Author.Rules.{rules}
 use Rattle.check_entries.proofs.pop_if.Statement.{statement}
 use Rattle.check_entries.proofs.pop_if.Tie as tie
 
-try-take-requires : tie.Need-try-take-requires
+try-take-requires : tie.Need-try_take-requires
 try-take-requires c κs = search rules
 
-enum-known-e : tie.Need-enum-known-e
+enum-known-e : tie.Need-enum_known-e
 enum-known-e c = search rules
 
-enum_told : tie.Need-enum-told
+enum_told : tie.Need-enum_told-1
 enum_told c = search rules
 
-returns : tie.Need-returns
-returns c = let h = tried_top c.before.e.given.1 c.before.before.before.try-take.ensures in
-    record { is = λ N. pop_top (want_of c.before.before.before.before.before.args.want) (machine_of c.before.before.before.before.before.args.ws.now N c.before.before.before.before.before.args.st) (h.is N); depth = h.depth; lighter = h.lighter; seen = h.seen; total = h.total }
+returns : tie.Need-returns-in-Top
+returns c = let h = tried_top c.in-Top.is c.try_take.ensures in
+    record { is = λ N. pop_top (want_of c.args.want) (machine_of c.args.ws.now N c.args.st) (h.is N); depth = h.depth; lighter = h.lighter; seen = h.seen; total = h.total }
 
-returns-2 : tie.Need-returns-2
+returns-2 : tie.Need-returns-in-Nothing
 unfolding number
-returns-2 c = let h = tried_nothing c.enum_told.given.1 c.before.before.try-take.ensures in
-    record { is = λ N. pop_other (want_of c.before.before.before.before.args.want) (machine_of c.before.before.before.before.args.ws.now N c.before.before.before.before.args.st) (h.is N) }
+returns-2 c = let h = tried_nothing c.in-Nothing.is c.try_take.ensures in
+    record { is = λ N. pop_other (want_of c.args.want) (machine_of c.args.ws.now N c.args.st) (h.is N) }
 
 pub pop_if_spec : {M : Type 1} → statement M
 pop_if_spec = tie.close (tie.spec try-take-requires enum-known-e enum_told returns returns-2)

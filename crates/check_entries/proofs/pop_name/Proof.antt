@@ -9,21 +9,21 @@ use Rattle.check_entries.proofs.pop_name.Tie as tie
 pop-requires : tie.Need-pop-requires
 pop-requires c κs = search rules
 
-enum-known-e : tie.Need-enum-known-e
+enum-known-e : tie.Need-enum_known-e
 enum-known-e c = search rules
 
-enum-known-r : tie.Need-enum-known-r
+enum-known-r : tie.Need-enum_known-r
 enum-known-r c = search rules
 
-returns : tie.Need-returns
-returns c = name_there (popped_top c.before.before.before.e.given.1 c.before.before.before.before.before.pop.ensures) c.if1.true
+returns : tie.Need-returns-then-e-eq0
+returns c = name_there (popped_top c.in-Top.is c.pop.ensures) c.if-e-eq0.true
 
-returns-2 : tie.Need-returns-2
-returns-2 c = name_other (popped_top c.before.before.before.e.given.1 c.before.before.before.before.before.pop.ensures) c.if1.false
+returns-2 : tie.Need-returns-else-e-eq0
+returns-2 c = name_other (popped_top c.in-Top.is c.pop.ensures) c.if-e-eq0.false
 
-returns-3 : tie.Need-returns-3
+returns-3 : tie.Need-returns-in-Refused
 unfolding C.pop_name
-returns-3 c = refuses _ (popped_refused c.before.r.given.1 c.before.before.before.pop.ensures)
+returns-3 c = refuses _ (popped_refused c.in-Refused.is c.pop.ensures)
 
 pub pop_name_spec : {M : Type 1} → statement M
 pop_name_spec =

@@ -12,37 +12,37 @@ use Rattle.check_entries.proofs.protocol.Tie as tie
 pop-requires : tie.Need-pop-requires
 pop-requires c κs = search rules
 
-enum-known-e : tie.Need-enum-known-e
+enum-known-e : tie.Need-enum_known-e
 enum-known-e c = search rules
 
-returns : tie.Need-returns
-returns c = protocol_itself (popped_top c.before.before.before.e.given.1 c.before.before.before.before.before.pop.ensures) c.if1.true
+returns : tie.Need-returns-then-e-eq5
+returns c = protocol_itself (popped_top c.in-Top.is c.pop.ensures) c.if-e-eq5.true
 
-named-protocol-requires : tie.Need-named-protocol-requires
-named-protocol-requires c κs = held_after (popped_top c.before.before.before.before.before.e.given.1 c.before.before.before.before.before.before.before.pop.ensures) c.before.before.before.before.before.before.before.before.before.requires
+named-protocol-requires : tie.Need-named_protocol-requires
+named-protocol-requires c κs = held_after (popped_top c.in-Top.is c.pop.ensures) c.requires
 
-returns-2 : tie.Need-returns-2
-returns-2 c = protocol_named (popped_top c.before.before.before.before.before.before.e.given.1 c.before.before.before.before.before.before.before.before.pop.ensures) c.before.before.before.before.before.before.before.before.before.before.requires c.before.if2.true c.named_protocol.result c.named_protocol.ensures
+returns-2 : tie.Need-returns-then-e-eq0
+returns-2 c = protocol_named (popped_top c.in-Top.is c.pop.ensures) c.requires c.if-e-eq0.true c.named_protocol.result c.named_protocol.ensures
 
-returns-3 : tie.Need-returns-3
-returns-3 c = protocol_other (popped_top c.before.before.before.before.before.before.before.e.given.1 c.before.before.before.before.before.before.before.before.before.pop.ensures) c.before.before.before.before.if1.false c.before.before.if2.false (not_list c.before.before.before.before.before.before.before.e.given.0.0.kind c.before.before.before.before.before.before.before.e.given.0.0.count c.if3.true)
+returns-3 : tie.Need-returns-then-e-ne15
+returns-3 c = protocol_other (popped_top c.in-Top.is c.pop.ensures) c.if-e-eq5.false c.if-e-eq0.false (not_list c.in-Top.e.kind c.in-Top.e.count c.if-e-ne15.true)
 
-returns-4 : tie.Need-returns-4
-returns-4 c = protocol_other (popped_top c.before.before.before.before.before.before.before.before.before.e.given.1 c.before.before.before.before.before.before.before.before.before.before.before.pop.ensures) c.before.before.before.before.before.before.if1.false c.before.before.before.before.if2.false (not_one c.before.before.before.before.before.before.before.before.before.e.given.0.0.kind c.before.before.before.before.before.before.before.before.before.e.given.0.0.count c.before.before.if3.false c.if4.true)
+returns-4 : tie.Need-returns-then-e-ne1
+returns-4 c = protocol_other (popped_top c.in-Top.is c.pop.ensures) c.if-e-eq5.false c.if-e-eq0.false (not_one c.in-Top.e.kind c.in-Top.e.count c.if-e-ne15.false c.if-e-ne1.true)
 
-sub-t11 : tie.Need-overflow-sub-t11
+sub-t11 : tie.Need-overflow_sub-result
 unfolding M.pop
-sub-t11 c = popped_size (λ k. true) c.before.before.before.before.before.before.before.before.before.before.before.before.before.before.requires (popped_top c.before.before.before.before.before.before.before.before.before.before.e.given.1 c.before.before.before.before.before.before.before.before.before.before.before.before.pop.ensures)
+sub-t11 c = popped_size (λ k. true) c.requires (popped_top c.in-Top.is c.pop.ensures)
 
-enum-known-r : tie.Need-enum-known-r
+enum-known-r : tie.Need-enum_known-r
 enum-known-r c = search rules
 
-returns-5 : tie.Need-returns-5
-returns-5 c = protocol_member (popped_top c.before.before.before.before.before.before.before.before.before.before.e.given.1 c.before.before.before.before.before.before.before.before.before.before.before.before.pop.ensures) c.before.before.before.if3.false c.before.if4.false
+returns-5 : tie.Need-returns-else-e-ne1
+returns-5 c = protocol_member (popped_top c.in-Top.is c.pop.ensures) c.if-e-ne15.false c.if-e-ne1.false
 
-returns-6 : tie.Need-returns-6
+returns-6 : tie.Need-returns-in-Refused
 unfolding C.protocol
-returns-6 c = refuses _ (popped_refused c.before.r.given.1 c.before.before.before.pop.ensures)
+returns-6 c = refuses _ (popped_refused c.in-Refused.is c.pop.ensures)
 
 pub protocol_spec : {M : Type 1} → statement M
 protocol_spec =

@@ -8,25 +8,25 @@ use borrow.Author.Rules.{rules}
 use Rattle.check_takes.proofs.take_labelled_type.Statement.{statement}
 use Rattle.check_takes.proofs.take_labelled_type.Tie as tie
 
-pop-if-requires : tie.Need-pop-if-requires
+pop-if-requires : tie.Need-pop_if-requires
 pop-if-requires c κs = search rules
 
-enum-known-e : tie.Need-enum-known-e
+enum-known-e : tie.Need-enum_known-e
 enum-known-e c = search rules
 
-add-labelled-requires : tie.Need-add-labelled-requires
+add-labelled-requires : tie.Need-add_labelled-requires
 add-labelled-requires c κs = search rules
 
-enum-known-r : tie.Need-enum-known-r
+enum-known-r : tie.Need-enum_known-r
 enum-known-r c = search rules
 
-returns : tie.Need-returns
+returns : tie.Need-returns-in-Top
 unfolding take_step C.add_labelled
-returns c = counted c.before.before.before.before.before.before.args.a (popped_top c.before.before.e.given.1 c.before.before.before.before.pop_if.ensures) C.add_labelled refl c.add_labelled.ensures
+returns c = counted c.args.a (popped_top c.in-Top.is c.pop_if.ensures) C.add_labelled refl c.add_labelled.ensures
 
-returns-2 : tie.Need-returns-2
+returns-2 : tie.Need-returns-in-Refused
 unfolding take_step
-returns-2 c = refuses _ (popped_refused c.before.r.given.1 c.before.before.before.pop_if.ensures)
+returns-2 c = refuses _ (popped_refused c.in-Refused.is c.pop_if.ensures)
 
 pub take_labelled_type_spec : {M : Type 1} → statement M
 take_labelled_type_spec =

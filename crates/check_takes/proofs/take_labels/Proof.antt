@@ -5,20 +5,20 @@ use borrow.Author.Rules.{rules}
 use Rattle.check_takes.proofs.take_labels.Statement.{statement}
 use Rattle.check_takes.proofs.take_labels.Tie as tie
 
-took-requires : tie.Need-took-requires
+took-requires : tie.Need-took-empty-requires
 took-requires c κs = search rules
 
-returns : tie.Need-returns
-returns c = labels_none c.before.before.before.before.args.a (took_is 30 (at_true c.if1.true c.before.before.took.ensures))
+returns : tie.Need-returns-then-empty
+returns c = labels_none c.args.a (took_is 30 (at_true c.if-empty.true c.took-empty.ensures))
 
 labels-requires : tie.Need-labels-requires
-labels-requires c κs = held_after c.before.before.took.ensures c.before.before.before.before.requires.held
+labels-requires c κs = held_after c.took-empty.ensures c.requires.held
 
 kept-requires : tie.Need-kept-requires
 kept-requires c κs = search rules
 
-returns-2 : tie.Need-returns-2
-returns-2 c = labels_kept c.before.before.before.before.before.before.args.a (took_is 30 (at_false c.before.before.if1.false c.before.before.before.before.took.ensures)) c.before.labels.result c.before.labels.ensures c.kept.ensures
+returns-2 : tie.Need-returns
+returns-2 c = labels_kept c.args.a (took_is 30 (at_false c.if-empty.false c.took-empty.ensures)) c.labels.result c.labels.ensures c.kept.ensures
 
 pub take_labels_spec : {M : Type 1} → statement M
 take_labels_spec =

@@ -6,17 +6,17 @@ use borrow.Author.Rules.{rules}
 use Rattle.check_takes.proofs.take_members.Statement.{statement}
 use Rattle.check_takes.proofs.take_members.Tie as tie
 
-took-requires : tie.Need-took-requires
+took-requires : tie.Need-took-empty-requires
 took-requires c κs = search rules
 
-returns : tie.Need-returns
-returns c = members_none c.before.before.before.before.args.a (took_is 30 (at_true c.if1.true c.before.before.took.ensures))
+returns : tie.Need-returns-then-empty
+returns c = members_none c.args.a (took_is 30 (at_true c.if-empty.true c.took-empty.ensures))
 
 gather-requires : tie.Need-gather-requires
-gather-requires c κs = ready_adds c.before.before.before.before.requires (omega (arith, c.before.before.took.ensures.depth))
+gather-requires c κs = ready_adds c.requires (omega (arith, c.took-empty.ensures.depth))
 
-returns-2 : tie.Need-returns-2
-returns-2 c = members_all c.before.before.before.before.before.args.a c.before.before.before.before.before.requires (took_is 30 (at_false c.before.if1.false c.before.before.before.took.ensures)) c.gather.result c.gather.ensures
+returns-2 : tie.Need-returns
+returns-2 c = members_all c.args.a c.requires (took_is 30 (at_false c.if-empty.false c.took-empty.ensures)) c.gather.result c.gather.ensures
 
 pub take_members_spec : {M : Type 1} → statement M
 take_members_spec = tie.close (tie.spec took-requires returns gather-requires returns-2)

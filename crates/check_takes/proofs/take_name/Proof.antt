@@ -4,14 +4,14 @@ use borrow.Author.Rules.{rules}
 use Rattle.check_takes.proofs.take_name.Statement.{statement}
 use Rattle.check_takes.proofs.take_name.Tie as tie
 
-pop-name-requires : tie.Need-pop-name-requires
+pop-name-requires : tie.Need-pop_name-requires
 pop-name-requires c κs = search rules
 
 kept-requires : tie.Need-kept-requires
 kept-requires c κs = search rules
 
 returns : tie.Need-returns
-returns c = name_kept c.before.before.before.args.ws.now c.before.before.before.args.st c.before.before.before.args.a c.before.pop_name.result c.before.pop_name.ensures c.kept.ensures
+returns c = name_kept c.args.ws.now c.args.st c.args.a c.pop_name.result c.pop_name.ensures c.kept.ensures
 
 pub take_name_spec : {M : Type 1} → statement M
 take_name_spec = tie.close (tie.spec pop-name-requires kept-requires returns)

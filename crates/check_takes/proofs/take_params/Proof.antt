@@ -11,22 +11,22 @@ use Rattle.check_takes.proofs.take_params.Tie as tie
 side-requires : tie.Need-side-requires
 side-requires c κs = search rules
 
-enum-known-e : tie.Need-enum-known-e
+enum-known-e : tie.Need-enum_known-e
 enum-known-e c = search rules
 
-add-params-requires : tie.Need-add-params-requires
+add-params-requires : tie.Need-add_params-requires
 add-params-requires c κs = search rules
 
-enum-known-r : tie.Need-enum-known-r
+enum-known-r : tie.Need-enum_known-r
 enum-known-r c = search rules
 
-returns : tie.Need-returns
+returns : tie.Need-returns-in-Top
 unfolding take_step C.add_params
-returns c = counted c.before.before.before.before.before.before.args.a (popped_top c.before.before.e.given.1 c.before.before.before.before.side.ensures) C.add_params refl c.add_params.ensures
+returns c = counted c.args.a (popped_top c.in-Top.is c.side.ensures) C.add_params refl c.add_params.ensures
 
-returns-2 : tie.Need-returns-2
+returns-2 : tie.Need-returns-in-Refused
 unfolding take_step
-returns-2 c = refuses _ (popped_refused c.before.r.given.1 c.before.before.before.side.ensures)
+returns-2 c = refuses _ (popped_refused c.in-Refused.is c.side.ensures)
 
 pub take_params_spec : {M : Type 1} → statement M
 take_params_spec =

@@ -10,11 +10,11 @@ wrapped-requires c κs = search rules
 kept-requires : tie.Need-kept-requires
 kept-requires c κs = search rules
 
-returns : tie.Need-returns
-returns c = λ w. signed_kept w c.before.before.before.args.st c.before.before.before.args.a c.before.before.if1.true c.before.wrapped.result (c.before.wrapped.ensures w) c.kept.ensures
+returns : tie.Need-returns-then-a
+returns c = λ w. signed_kept w c.args.st c.args.a c.if-a.true c.wrapped.result (c.wrapped.ensures w) c.kept.ensures
 
-returns-2 : tie.Need-returns-2
-returns-2 c = λ w. unsigned_kept w c.before.args.st c.before.args.a c.if1.false
+returns-2 : tie.Need-returns
+returns-2 c = λ w. unsigned_kept w c.args.st c.args.a c.if-a.false
 
 pub take_under_signature_spec : {M : Type 1} → statement M
 take_under_signature_spec = tie.close (tie.spec wrapped-requires kept-requires returns returns-2)

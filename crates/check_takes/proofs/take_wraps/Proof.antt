@@ -11,7 +11,7 @@ kept-requires : tie.Need-kept-requires
 kept-requires c κs = search rules
 
 returns : tie.Need-returns
-returns c = λ w. wraps_kept w c.before.before.args.st c.before.before.args.a c.before.wrapped.result (c.before.wrapped.ensures w) c.kept.ensures
+returns c = λ w. wraps_kept w c.args.st c.args.a c.wrapped.result (c.wrapped.ensures w) c.kept.ensures
 
 pub take_wraps_spec : {M : Type 1} → statement M
 take_wraps_spec = tie.close (tie.spec wrapped-requires kept-requires returns)

@@ -9,13 +9,13 @@ pub word_448_spec : {M : Type 1} → statement M
 word_448_spec =
     tie.close
     (tie.spec
-    (λ c. word_here c.match.keys1)
-    (λ c. word_here c.match.keys2)
-    (λ c. word_here c.match.keys3)
-    (λ c. word_here c.match.keys4)
-    (λ c. word_here c.match.keys5)
-    (λ c. word_here c.match.keys6)
-    (λ c. word_here c.match.keys7)
-    (λ c. word_here c.match.keys8)
-    (λ c. word_here c.match.keys9)
-    (λ c. word_here (the_last c.before.args.i 448 9 c.before.requires.0 (omega (arith, c.before.requires.1)) c.match.rest)))
+    (λ c. word_here c.in-448.is)
+    (λ c. word_here c.in-449.is)
+    (λ c. word_here c.in-450.is)
+    (λ c. word_here c.in-451.is)
+    (λ c. word_here c.in-452.is)
+    (λ c. word_here c.in-453.is)
+    (λ c. word_here c.in-454.is)
+    (λ c. word_here c.in-455.is)
+    (λ c. word_here c.in-456.is)
+    (λ c. word_here (the_last c.args.i 448 9 c.requires.0 (omega (arith, c.requires.1)) c.in_default.in_default-own.rest)))

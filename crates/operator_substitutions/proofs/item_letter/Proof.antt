@@ -14,53 +14,53 @@ use native.Mathlib.Omega.{arith}
 use Rattle.operator_substitutions.proofs.item_letter.Statement.{statement}
 use Rattle.operator_substitutions.proofs.item_letter.Tie as tie
 
-shared-slice-read-b : tie.Need-shared-slice-read-b
+shared-slice-read-b : tie.Need-bounds-text-at
 shared-slice-read-b c = search rules
 
-add-t12 : tie.Need-overflow-add-t12
+add-t12 : tie.Need-overflow_add-next
 add-t12 c = search rules
 
-is-lower-requires : tie.Need-is-lower-requires
+is-lower-requires : tie.Need-is_lower-requires
 is-lower-requires c κs = search rules
 
 wide-requires : tie.Need-wide-requires
 wide-requires c κs = search rules
 
-sub-t15 : tie.Need-overflow-sub-t15
-sub-t15 c = let h = lower_low (get_or c.before.before.before.before.before.before.args.text.now c.before.before.before.before.before.before.args.c.at 0) (sym c.before.before.is-lower.ensures ∙ c.before.if2.true) in let w = c.wide.ensures in omega arith
+sub-t15 : tie.Need-overflow_sub-result
+sub-t15 c = let h = lower_low (get_or c.args.text.now c.args.c.at 0) (sym c.is_lower.ensures ∙ c.if-is_lower.true) in let w = c.wide.ensures in omega arith
 
-returns : tie.Need-returns
-returns c = λ repeat e s p. record { is = item_lower c.before.before.before.before.before.before.args.text.now c.before.before.before.before.before.before.args.c.at repeat c.before.before.before.before.if1.true c.before.before.before.before.before.before.args.times (c.wide.result - 97) e (sym c.before.before.is-lower.ensures ∙ c.before.if2.true) (ap (λ (x : ℕ). x - 97) c.wide.ensures); some = p; inside = omega arith; onward = omega arith }
+returns : tie.Need-returns-then-is_lower
+returns c = λ repeat e s p. record { is = item_lower c.args.text.now c.args.c.at repeat c.if-at-text.true c.args.times (c.wide.result - 97) e (sym c.is_lower.ensures ∙ c.if-is_lower.true) (ap (λ (x : ℕ). x - 97) c.wide.ensures); some = p; inside = omega arith; onward = omega arith }
 
-is-upper-requires : tie.Need-is-upper-requires
+is-upper-requires : tie.Need-is_upper-requires
 is-upper-requires c κs = search rules
 
-wide-requires-2 : tie.Need-wide-requires-2
+wide-requires-2 : tie.Need-wide-requires-then-is_upper
 wide-requires-2 c κs = search rules
 
-sub-t18 : tie.Need-overflow-sub-t18
-sub-t18 c = let h = upper_low (get_or c.before.before.before.before.before.before.before.before.args.text.now c.before.before.before.before.before.before.before.before.args.c.at 0) (sym c.before.before.is-upper.ensures ∙ c.before.if3.true) in let w = c.wide2.ensures in omega arith
+sub-t18 : tie.Need-overflow_sub-result-then-is_upper
+sub-t18 c = let h = upper_low (get_or c.args.text.now c.args.c.at 0) (sym c.is_upper.ensures ∙ c.if-is_upper.true) in let w = c.wide-then-is_upper.ensures in omega arith
 
-returns-2 : tie.Need-returns-2
+returns-2 : tie.Need-returns-then-is_upper
 returns-2 c = λ repeat e s p. record {
-  index = c.wide2.result - 65;
+  index = c.wide-then-is_upper.result - 65;
   same = inl refl;
-  is = item_upper c.before.before.before.before.before.before.before.before.args.text.now c.before.before.before.before.before.before.before.before.args.c.at repeat c.before.before.before.before.before.before.if1.true c.before.before.before.before.before.before.before.before.args.times (c.wide2.result - 65) e (sym c.before.before.before.before.is-lower.ensures ∙ c.before.before.before.if2.false) (sym c.before.before.is-upper.ensures ∙ c.before.if3.true) (ap (λ (x : ℕ). x - 65) c.wide2.ensures);
+  is = item_upper c.args.text.now c.args.c.at repeat c.if-at-text.true c.args.times (c.wide-then-is_upper.result - 65) e (sym c.is_lower.ensures ∙ c.if-is_lower.false) (sym c.is_upper.ensures ∙ c.if-is_upper.true) (ap (λ (x : ℕ). x - 65) c.wide-then-is_upper.ensures);
   some = p;
   inside = omega arith;
   onward = omega arith;
 }
 
-returns-3 : tie.Need-returns-3
-returns-3 c = λ repeat e s p. record { index = past_of repeat; same = s; is = item_past c.before.before.before.before.before.before.before.before.args.text.now c.before.before.before.before.before.before.before.before.args.c.at repeat c.before.before.before.before.before.before.if1.true (sym c.before.before.before.before.is-lower.ensures ∙ c.before.before.before.if2.false) (sym c.before.before.is-upper.ensures ∙ c.before.if3.false) c.if4.true; some = omega arith; inside = omega arith; onward = omega arith }
+returns-3 : tie.Need-returns-then-b-eq95
+returns-3 c = λ repeat e s p. record { index = past_of repeat; same = s; is = item_past c.args.text.now c.args.c.at repeat c.if-at-text.true (sym c.is_lower.ensures ∙ c.if-is_lower.false) (sym c.is_upper.ensures ∙ c.if-is_upper.false) c.if-b-eq95.true; some = omega arith; inside = omega arith; onward = omega arith }
 
-returns-4 : tie.Need-returns-4
+returns-4 : tie.Need-returns-else-b-eq95
 unfolding number
-returns-4 c = λ repeat e s p. record { rest = drop (c.before.before.before.before.before.before.before.before.args.c.at + 1) c.before.before.before.before.before.before.before.before.args.text.now; is = item_other c.before.before.before.before.before.before.before.before.args.text.now c.before.before.before.before.before.before.before.before.args.c.at repeat c.before.before.before.before.before.before.if1.true (sym c.before.before.before.before.is-lower.ensures ∙ c.before.before.before.if2.false) (sym c.before.before.is-upper.ensures ∙ c.before.if3.false) c.if4.false (sym (peek_read c.before.before.before.before.before.before.before.before.args.text.now c.before.before.before.before.before.before.before.before.args.c.at digit c.before.before.before.before.before.before.if1.true) ∙ c.before.before.before.before.before.before.before.before.requires) }
+returns-4 c = λ repeat e s p. record { rest = drop (c.args.c.at + 1) c.args.text.now; is = item_other c.args.text.now c.args.c.at repeat c.if-at-text.true (sym c.is_lower.ensures ∙ c.if-is_lower.false) (sym c.is_upper.ensures ∙ c.if-is_upper.false) c.if-b-eq95.false (sym (peek_read c.args.text.now c.args.c.at digit c.if-at-text.true) ∙ c.requires) }
 
-returns-5 : tie.Need-returns-5
+returns-5 : tie.Need-returns-else-at-text
 unfolding number
-returns-5 c = λ repeat e s p. record { rest = []; is = item_end c.before.before.args.text.now c.before.before.args.c.at repeat c.if1.false }
+returns-5 c = λ repeat e s p. record { rest = []; is = item_end c.args.text.now c.args.c.at repeat c.if-at-text.false }
 
 pub item_letter_spec : {M : Type 1} → statement M
 item_letter_spec =

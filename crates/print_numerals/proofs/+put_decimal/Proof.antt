@@ -26,41 +26,41 @@ put_decimal_below t =
 abbrev put_decimal_claims : ℕ → put-decimal-lts.Claims
 put_decimal_claims t = (put-byte-reads.Asked, put-byte-reads.Learnt, put_decimal_below t, put-decimal.Post)
 
-put_decimal_cast_put_byte : (t : ℕ) → put-decimal-lts.Need-overflow-cast-put-byte (put_decimal_claims t) (put_decimal_at t) put-decimal.Post
+put_decimal_cast_put_byte : (t : ℕ) → put-decimal-lts.Need-overflow_cast-n (put_decimal_claims t) (put_decimal_at t) put-decimal.Post
 put_decimal_cast_put_byte t c = omega arith
 
-put_decimal_add_put_byte : (t : ℕ) → put-decimal-lts.Need-overflow-add-put-byte (put_decimal_claims t) (put_decimal_at t) put-decimal.Post
+put_decimal_add_put_byte : (t : ℕ) → put-decimal-lts.Need-overflow_add-n (put_decimal_claims t) (put_decimal_at t) put-decimal.Post
 put_decimal_add_put_byte t c = omega arith
 
-put_decimal_put_byte_requires : (t : ℕ) → put-decimal-lts.Need-put-byte-requires (put_decimal_claims t) (put_decimal_at t) put-decimal.Post
-put_decimal_put_byte_requires t c κs = c.before.before.before.requires.1
+put_decimal_put_byte_requires : (t : ℕ) → put-decimal-lts.Need-put_byte-requires (put_decimal_claims t) (put_decimal_at t) put-decimal.Post
+put_decimal_put_byte_requires t c κs = c.requires.1
 
-put_decimal_returns : (t : ℕ) → put-decimal-lts.Need-returns (put_decimal_claims t) (put_decimal_at t) put-decimal.Post
-put_decimal_returns t c = wrote_is (one_digit _ c.before.before.before.before.if1.true) c.before.before.put_byte.ensures
+put_decimal_returns : (t : ℕ) → put-decimal-lts.Need-returns-then-n-lt10 (put_decimal_claims t) (put_decimal_at t) put-decimal.Post
+put_decimal_returns t c = wrote_is (one_digit _ c.if-n-lt10.true) c.put_byte.ensures
 
-put_decimal_put_decimal_requires : (t : ℕ) → put-decimal-lts.Need-put-decimal-requires (put_decimal_claims t) (put_decimal_at t) put-decimal.Post
-put_decimal_put_decimal_requires t c κs = (omega (arith, c.before.before.before.requires.0), c.before.before.before.requires.1)
+put_decimal_put_decimal_requires : (t : ℕ) → put-decimal-lts.Need-put_decimal-r-requires (put_decimal_claims t) (put_decimal_at t) put-decimal.Post
+put_decimal_put_decimal_requires t c κs = (omega (arith, c.requires.0), c.requires.1)
 
-put_decimal_cast_put_byte_2 : (t : ℕ) → put-decimal-lts.Need-overflow-cast-put-byte-2 (put_decimal_claims t) (put_decimal_at t) put-decimal.Post
+put_decimal_cast_put_byte_2 : (t : ℕ) → put-decimal-lts.Need-overflow_cast-n-2 (put_decimal_claims t) (put_decimal_at t) put-decimal.Post
 put_decimal_cast_put_byte_2 t c = omega arith
 
-put_decimal_add_put_byte_2 : (t : ℕ) → put-decimal-lts.Need-overflow-add-put-byte-2 (put_decimal_claims t) (put_decimal_at t) put-decimal.Post
+put_decimal_add_put_byte_2 : (t : ℕ) → put-decimal-lts.Need-overflow_add-n-2 (put_decimal_claims t) (put_decimal_at t) put-decimal.Post
 put_decimal_add_put_byte_2 t c = omega arith
 
-put_decimal_put_byte_requires_2 : (t : ℕ) → put-decimal-lts.Need-put-byte-requires-2 (put_decimal_claims t) (put_decimal_at t) put-decimal.Post
-put_decimal_put_byte_requires_2 t c κs = c.before.before.before.put-decimal.ensures.next
+put_decimal_put_byte_requires_2 : (t : ℕ) → put-decimal-lts.Need-put_byte-requires-2 (put_decimal_claims t) (put_decimal_at t) put-decimal.Post
+put_decimal_put_byte_requires_2 t c κs = c.put_decimal-r.ensures.next
 
-put_decimal_returns_2 : (t : ℕ) → put-decimal-lts.Need-returns-2 (put_decimal_claims t) (put_decimal_at t) put-decimal.Post
-put_decimal_returns_2 t c = wrote_is (more_digits _ c.before.before.before.before.before.before.before.before.if1.false) (wrote_then c.before.before.before.before.before.before.put-decimal.ensures c.before.before.put-byte2.ensures)
+put_decimal_returns_2 : (t : ℕ) → put-decimal-lts.Need-returns (put_decimal_claims t) (put_decimal_at t) put-decimal.Post
+put_decimal_returns_2 t c = wrote_is (more_digits _ c.if-n-lt10.false) (wrote_then c.put_decimal-r.ensures c.put_byte-2.ensures)
 
-put_decimal_same_length : (t : ℕ) → put-decimal-lts.Need-same-length (put_decimal_claims t) (put_decimal_at t) put-decimal.Post
+put_decimal_same_length : (t : ℕ) → put-decimal-lts.Need-shape_of-out-then-n-lt10 (put_decimal_claims t) (put_decimal_at t) put-decimal.Post
 put_decimal_same_length t c = (put_decimal_returns t c).len
 
-put_decimal_same_length_2 : (t : ℕ) → put-decimal-lts.Need-same-length-2 (put_decimal_claims t) (put_decimal_at t) put-decimal.Post
+put_decimal_same_length_2 : (t : ℕ) → put-decimal-lts.Need-shape_of-out (put_decimal_claims t) (put_decimal_at t) put-decimal.Post
 put_decimal_same_length_2 t c = (put_decimal_returns_2 t c).len
 
-pub +put-decimal-spec : {M : Type 1} → statement M
-+put-decimal-spec = close μ_put_decimal λ t. put-decimal-lts.spec (put_decimal_claims t) (put_decimal_at t)
+pub +put_decimal_spec : {M : Type 1} → statement M
++put_decimal_spec = close μ_put_decimal λ t. put-decimal-lts.spec (put_decimal_claims t) (put_decimal_at t)
     put-decimal.Post
     (put_decimal_cast_put_byte t)
     (put_decimal_add_put_byte t)

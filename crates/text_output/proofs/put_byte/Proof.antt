@@ -6,26 +6,26 @@ use Rattle.text_output.specs.Sink.{wrote_out, wrote_byte}
 use Rattle.text_output.proofs.put_byte.Statement.{statement}
 use Rattle.text_output.proofs.put_byte.Tie as tie
 
-returns : tie.Need-returns
-returns c = wrote_out (c.before.args.b ∷ []) c.before.requires (omega arith) (omega arith)
+returns : tie.Need-returns-then-room-at
+returns c = wrote_out (c.args.b ∷ []) c.requires (omega arith) (omega arith)
 
-slice-write-out : tie.Need-slice-write-out
+slice-write-out : tie.Need-bounds-out-at
 slice-write-out c = search rules
 
-add-result : tie.Need-overflow-add-result
+add-result : tie.Need-overflow_add-result
 add-result c = search rules
 
-same_length : tie.Need-same-length
+same_length : tie.Need-shape_of-out-then-at-out
 same_length c = search rules
 
-returns-2 : tie.Need-returns-2
-returns-2 c = wrote_byte c.before.before.args.b c.before.before.requires c.if2.true
+returns-2 : tie.Need-returns-then-at-out
+returns-2 c = wrote_byte c.args.b c.requires c.if-at-out.true
 
-add-result-2 : tie.Need-overflow-add-result-2
+add-result-2 : tie.Need-overflow_add-result-2
 add-result-2 c = search rules
 
-returns-3 : tie.Need-returns-3
-returns-3 c = wrote_out (c.before.before.args.b ∷ []) c.before.before.requires (omega arith) (omega arith)
+returns-3 : tie.Need-returns
+returns-3 c = wrote_out (c.args.b ∷ []) c.requires (omega arith) (omega arith)
 
 pub put_byte_spec : {M : Type 1} → statement M
 put_byte_spec =

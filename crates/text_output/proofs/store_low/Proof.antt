@@ -9,38 +9,38 @@ use Rattle.text_output.specs.Sink.{low_bytes, low_none, low_more, low_done}
 use Rattle.text_output.proofs.store_low.Statement.{statement}
 use Rattle.text_output.proofs.store_low.Tie as tie
 
-abbrev invariant-loop : tie.invariant-loop
+abbrev invariant-loop : tie.invariant-loop-i
 invariant-loop out₀ at n w rest₀ i₀ out rest i = (i ≤ n) × (length out ≡ length out₀) × (sets out (at + i) (low_bytes (n - i) rest) ≡ sets out₀ at (low_bytes n w))
 
-abbrev decreases-loop : tie.decreases-loop
+abbrev decreases-loop : tie.decreases-loop-i
 decreases-loop out₀ at n w rest₀ i₀ out rest i = n - i
 
-loop-holds : tie.Need-loop-init invariant-loop decreases-loop
+loop-holds : tie.Need-loop-i-init invariant-loop decreases-loop
 loop-holds c = (omega arith, refl, low_none _ c.args.at c.args.n c.args.w)
 
-cast-out : tie.Need-overflow-cast-out invariant-loop decreases-loop
+cast-out : tie.Need-overflow_cast-out invariant-loop decreases-loop
 cast-out c = omega arith
 
-add-out : tie.Need-overflow-add-out invariant-loop decreases-loop
+add-out : tie.Need-overflow_add-out invariant-loop decreases-loop
 add-out c = omega arith
 
-slice-write-out : tie.Need-slice-write-out invariant-loop decreases-loop
+slice-write-out : tie.Need-bounds-out-at invariant-loop decreases-loop
 slice-write-out c = omega arith
 
-add-i : tie.Need-overflow-add-i invariant-loop decreases-loop
+add-i : tie.Need-overflow_add-i invariant-loop decreases-loop
 add-i c = omega arith
 
-loop-less : tie.Need-loop-smaller invariant-loop decreases-loop
+loop-less : tie.Need-loop-i-smaller invariant-loop decreases-loop
 loop-less c = omega arith
 
-loop-again : tie.Need-loop-preserved invariant-loop decreases-loop
-loop-again c = (omega arith, length-set c.before.loop.out _ _ ∙ c.before.loop.invariant.1, low_more c.before.loop.out c.before.before.args.at c.before.before.args.n c.before.loop.i c.before.loop.rest (omega arith) ∙ c.before.loop.invariant.2)
+loop-again : tie.Need-loop-i-preserved invariant-loop decreases-loop
+loop-again c = (omega arith, length-set c.loop-i.out _ _ ∙ c.loop-i.invariant.1, low_more c.loop-i.out c.args.at c.args.n c.loop-i.i c.loop-i.rest (omega arith) ∙ c.loop-i.invariant.2)
 
-same_length : tie.Need-same-length invariant-loop decreases-loop
-same_length c = c.before.loop.invariant.1
+same_length : tie.Need-shape_of-out invariant-loop decreases-loop
+same_length c = c.loop-i.invariant.1
 
 returns : tie.Need-returns invariant-loop decreases-loop
-returns c = sym (low_done _ _ _ _ _ c.loop-test.false) ∙ c.before.loop.invariant.2
+returns c = sym (low_done _ _ _ _ _ c.loop-i-test.false) ∙ c.loop-i.invariant.2
 
 pub store_low_spec : {M : Type 1} → statement M
 store_low_spec =

@@ -5,53 +5,53 @@ use Rattle.text_symbols.specs.Symbol.{no_dot}
 use Rattle.text_symbols.proofs.eight_others.Statement.{statement}
 use Rattle.text_symbols.proofs.eight_others.Tie as tie
 
-shared-slice-read-first : tie.Need-shared-slice-read-first
+shared-slice-read-first : tie.Need-bounds-text-at
 shared-slice-read-first c = search rules
 
-add-first : tie.Need-overflow-add-first
+add-first : tie.Need-overflow_add-first
 add-first c = search rules
 
-shared-slice-read-first-2 : tie.Need-shared-slice-read-first-2
+shared-slice-read-first-2 : tie.Need-bounds-text-at-2
 shared-slice-read-first-2 c = search rules
 
-add-first-2 : tie.Need-overflow-add-first-2
+add-first-2 : tie.Need-overflow_add-first-2
 add-first-2 c = search rules
 
-shared-slice-read-first-3 : tie.Need-shared-slice-read-first-3
+shared-slice-read-first-3 : tie.Need-bounds-text-at-3
 shared-slice-read-first-3 c = search rules
 
-add-first-3 : tie.Need-overflow-add-first-3
+add-first-3 : tie.Need-overflow_add-first-3
 add-first-3 c = search rules
 
-shared-slice-read-first-4 : tie.Need-shared-slice-read-first-4
+shared-slice-read-first-4 : tie.Need-bounds-text-at-4
 shared-slice-read-first-4 c = search rules
 
-add-last : tie.Need-overflow-add-last
+add-last : tie.Need-overflow_add-last
 add-last c = search rules
 
-shared-slice-read-last : tie.Need-shared-slice-read-last
+shared-slice-read-last : tie.Need-bounds-text-at-5
 shared-slice-read-last c = search rules
 
-add-last-2 : tie.Need-overflow-add-last-2
+add-last-2 : tie.Need-overflow_add-last-2
 add-last-2 c = search rules
 
-shared-slice-read-last-2 : tie.Need-shared-slice-read-last-2
+shared-slice-read-last-2 : tie.Need-bounds-text-at-6
 shared-slice-read-last-2 c = search rules
 
-add-last-3 : tie.Need-overflow-add-last-3
+add-last-3 : tie.Need-overflow_add-last-3
 add-last-3 c = search rules
 
-shared-slice-read-last-3 : tie.Need-shared-slice-read-last-3
+shared-slice-read-last-3 : tie.Need-bounds-text-at-7
 shared-slice-read-last-3 c = search rules
 
-add-last-4 : tie.Need-overflow-add-last-4
+add-last-4 : tie.Need-overflow_add-last-4
 add-last-4 c = search rules
 
-shared-slice-read-last-4 : tie.Need-shared-slice-read-last-4
+shared-slice-read-last-4 : tie.Need-bounds-text-at-8
 shared-slice-read-last-4 c = search rules
 
 returns : tie.Need-returns
-returns c = each_eight no_dot c.before.before.before.before.before.before.before.before.args.text.now c.before.before.before.before.before.before.before.before.args.at
+returns c = each_eight no_dot c.args.text.now c.args.at
 
 pub eight_others_spec : {M : Type 1} → statement M
 eight_others_spec =

@@ -11,51 +11,51 @@ use Rattle.text_symbols.specs.Symbol.{no_dot}
 use Rattle.text_symbols.proofs.past_others.Statement.{statement}
 use Rattle.text_symbols.proofs.past_others.Tie as tie
 
-abbrev invariant-loop : tie.invariant-loop
+abbrev invariant-loop : tie.invariant-loop-next
 invariant-loop text from at₀ at = (from ≤ at) × (at ≤ length text) × Each no_dot text from at
 
-abbrev decreases-loop : tie.decreases-loop
+abbrev decreases-loop : tie.decreases-loop-next
 decreases-loop text from at₀ at = length text - at
 
-loop-holds : tie.Need-loop-init invariant-loop decreases-loop
-loop-holds c = (omega arith, c.before.requires, each_none no_dot _)
+loop-holds : tie.Need-loop-next-init invariant-loop decreases-loop
+loop-holds c = (omega arith, c.requires, each_none no_dot _)
 
-sub-loop : tie.Need-overflow-sub-loop invariant-loop decreases-loop
-sub-loop c = c.loop.invariant.1
+sub-loop : tie.Need-overflow_sub-text invariant-loop decreases-loop
+sub-loop c = c.loop-next.invariant.1
 
-eight-others-requires : tie.Need-eight-others-requires invariant-loop decreases-loop
-eight-others-requires c κs = let h = c.before.loop.invariant.1 in omega arith
+eight-others-requires : tie.Need-eight_others-requires invariant-loop decreases-loop
+eight-others-requires c κs = let h = c.loop-next.invariant.1 in omega arith
 
-returns : tie.Need-returns invariant-loop decreases-loop
-returns c = c.before.before.before.loop.invariant
+returns : tie.Need-returns-then-not-eight_others invariant-loop decreases-loop
+returns c = c.loop-next.invariant
 
-add-next : tie.Need-overflow-add-next invariant-loop decreases-loop
+add-next : tie.Need-overflow_add-next invariant-loop decreases-loop
 add-next c = omega arith
 
-loop-less : tie.Need-loop-smaller invariant-loop decreases-loop
+loop-less : tie.Need-loop-next-smaller invariant-loop decreases-loop
 loop-less c = omega arith
 
-loop-again : tie.Need-loop-preserved invariant-loop decreases-loop
+loop-again : tie.Need-loop-next-preserved invariant-loop decreases-loop
 loop-again c =
-    let h = c.before.before.before.loop.invariant in
-    (omega (arith, h.0), omega arith, each_both no_dot _ h.2 (c.before.eight-others.ensures (not-false _ c.if1.false)))
+    let h = c.loop-next.invariant in
+    (omega (arith, h.0), omega arith, each_both no_dot _ h.2 (c.eight_others.ensures (not-false _ c.if-not-eight_others.false-raw)))
 
-sub-eight-others : tie.Need-overflow-sub-eight-others invariant-loop decreases-loop
-sub-eight-others c = c.if2.true
+sub-eight-others : tie.Need-overflow_sub-text-then-text-ge8 invariant-loop decreases-loop
+sub-eight-others c = c.if-text-ge8.true
 
-eight-others-requires-2 : tie.Need-eight-others-requires-2 invariant-loop decreases-loop
+eight-others-requires-2 : tie.Need-eight_others-requires-then-text-ge8 invariant-loop decreases-loop
 eight-others-requires-2 c κs = omega arith
 
-returns-2 : tie.Need-returns-2 invariant-loop decreases-loop
+returns-2 : tie.Need-returns-then-eight_others invariant-loop decreases-loop
 returns-2 c =
-    let h = c.before.before.before.before.loop.invariant in
-    (c.before.before.before.before.before.before.requires, le_refl _, each_over no_dot _ h.2 (c.before.eight-others2.ensures c.if3.true) (omega arith) (omega arith))
+    let h = c.loop-next.invariant in
+    (c.requires, le_refl _, each_over no_dot _ h.2 (c.eight_others-then-text-ge8.ensures c.if-eight_others.true) (omega arith) (omega arith))
 
-returns-3 : tie.Need-returns-3 invariant-loop decreases-loop
-returns-3 c = c.before.before.before.before.loop.invariant
+returns-3 : tie.Need-returns-else-eight_others invariant-loop decreases-loop
+returns-3 c = c.loop-next.invariant
 
-returns-4 : tie.Need-returns-4 invariant-loop decreases-loop
-returns-4 c = c.before.before.loop.invariant
+returns-4 : tie.Need-returns-else-text-ge8 invariant-loop decreases-loop
+returns-4 c = c.loop-next.invariant
 
 pub past_others_spec : {M : Type 1} → statement M
 past_others_spec =

@@ -10,24 +10,24 @@ use Rattle.text_symbols.proofs.split.Tie as tie
 prefix-requires : tie.Need-prefix-requires
 prefix-requires c κs = search rules
 
-enum-known-start : tie.Need-enum-known-start
+enum-known-start : tie.Need-enum_known-start
 enum-known-start c = search rules
 
-split-at-requires : tie.Need-split-at-requires
+split-at-requires : tie.Need-split_at-requires
 split-at-requires c κs = search rules
 
-enum_told : tie.Need-enum-told
+enum_told : tie.Need-enum_told-1
 enum_told c = search rules
 
-returns : tie.Need-returns
+returns : tie.Need-returns-in-By
 returns c =
-    let x = c.before.before.before.before.before.before.args.text.now in
-    parts_is x (split_some x c.before.before.start.given.0.0 (subst (PrefixIs (prefix_of prefixes x)) c.before.before.start.given.1 c.before.before.before.before.prefix.ensures)) c.split_at.result c.split_at.ensures
+    let x = c.args.text.now in
+    parts_is x (split_some x c.in-By.start (subst (PrefixIs (prefix_of prefixes x)) c.in-By.is c.prefix.ensures)) c.split_at.result c.split_at.ensures
 
-returns-2 : tie.Need-returns-2
+returns-2 : tie.Need-returns-in-Not
 returns-2 c =
-    let x = c.before.before.before.before.args.text.now in
-    split_none x (subst (PrefixIs (prefix_of prefixes x)) c.enum_told.given.1 c.before.before.prefix.ensures)
+    let x = c.args.text.now in
+    split_none x (subst (PrefixIs (prefix_of prefixes x)) c.in-Not.is c.prefix.ensures)
 
 pub split_spec : {M : Type 1} → statement M
 split_spec =

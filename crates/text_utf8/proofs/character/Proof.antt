@@ -10,45 +10,45 @@ use Rattle.text_utf8.proofs.Characters.{character_ascii, character_row, passed_i
 use Rattle.text_utf8.proofs.character.Statement.{statement}
 use Rattle.text_utf8.proofs.character.Tie as tie
 
-row : (c : tie.After-i) → Begins (get_or c.before.before.before.before.before.before.args.text.now c.before.before.before.before.before.before.args.at 0) c.i.given.0.0
-row c = subst (RowIs (get_or c.before.before.before.before.before.before.args.text.now c.before.before.before.before.before.before.args.at 0)) c.i.given.1 c.before.before.row_of.ensures
+row : (c : tie.In-Row) → Begins (get_or c.args.text.now c.args.at 0) c.in-Row.i
+row c = subst (RowIs (get_or c.args.text.now c.args.at 0)) c.in-Row.is c.row_of.ensures
 
-shared-slice-read-b : tie.Need-shared-slice-read-b
+shared-slice-read-b : tie.Need-bounds-text-at
 shared-slice-read-b c = search rules
 
-add-t8 : tie.Need-overflow-add-t8
+add-t8 : tie.Need-overflow_add-result
 add-t8 c = search rules
 
-returns : tie.Need-returns
-returns c = record { is = character_ascii _ _ c.if1.true; inside = omega arith; onward = omega arith }
+returns : tie.Need-returns-then-b-lt128
+returns c = record { is = character_ascii _ _ c.if-b-lt128.true; inside = omega arith; onward = omega arith }
 
-row-of-requires : tie.Need-row-of-requires
+row-of-requires : tie.Need-row_of-requires
 row-of-requires c κs = search rules
 
-enum-known-i : tie.Need-enum-known-i
+enum-known-i : tie.Need-enum_known-i
 enum-known-i c = search rules
 
-add-second : tie.Need-overflow-add-second
+add-second : tie.Need-overflow_add-at
 add-second c = search rules
 
 second-requires : tie.Need-second-requires
-second-requires c κs = (row c.before).below
+second-requires c κs = (row c).below
 
-enum_told : tie.Need-enum-told
+enum_told : tie.Need-enum_told-1
 enum_told c = search rules
 
-returns-2 : tie.Need-returns-2
+returns-2 : tie.Need-returns-in-Row
 returns-2 c =
-    let x = c.before.before.before.before.before.before.before.before.args.text.now in
+    let x = c.args.text.now in
     passed_is x
-    (character_row (get_or x c.before.before.before.before.before.before.before.before.args.at 0) (drop (c.before.before.before.before.before.before.before.before.args.at + 1) x) c.before.before.before.before.before.if1.false ∙ (row c.before.before).is (drop (c.before.before.before.before.before.before.before.before.args.at + 1) x))
+    (character_row (get_or x c.args.at 0) (drop (c.args.at + 1) x) c.if-b-lt128.false ∙ (row c.before).is (drop (c.args.at + 1) x))
     (le_refl _) c.second.result c.second.ensures
 
-returns-3 : tie.Need-returns-3
+returns-3 : tie.Need-returns-in-Nothing
 returns-3 c =
-    let x = c.before.before.before.before.before.before.args.text.now in
-    character_row (get_or x c.before.before.before.before.before.before.args.at 0) (drop (c.before.before.before.before.before.before.args.at + 1) x) c.before.before.before.if1.false
-    ∙ subst (RowIs (get_or x c.before.before.before.before.before.before.args.at 0)) c.enum_told.given.1 c.before.before.row_of.ensures (drop (c.before.before.before.before.before.before.args.at + 1) x)
+    let x = c.args.text.now in
+    character_row (get_or x c.args.at 0) (drop (c.args.at + 1) x) c.if-b-lt128.false
+    ∙ subst (RowIs (get_or x c.args.at 0)) c.in-Nothing.is c.row_of.ensures (drop (c.args.at + 1) x)
 
 pub character_spec : {M : Type 1} → statement M
 character_spec =

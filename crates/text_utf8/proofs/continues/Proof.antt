@@ -6,10 +6,10 @@ use Rattle.text_utf8.proofs.Characters.{column_at, between_is}
 use Rattle.text_utf8.proofs.continues.Statement.{statement}
 use Rattle.text_utf8.proofs.continues.Tie as tie
 
-array-read-between : tie.Need-array-read-between
+array-read-between : tie.Need-bounds-i
 array-read-between c = search rules
 
-array-read-between-2 : tie.Need-array-read-between-2
+array-read-between-2 : tie.Need-bounds-i-2
 array-read-between-2 c = search rules
 
 between-requires : tie.Need-between-requires
@@ -18,7 +18,7 @@ between-requires c κs = search rules
 returns : tie.Need-returns
 unfolding utf8_rows
 returns c =
-    c.between.ensures ∙ between_is c.before.args.b (column_at (λ (r : Utf8Row). r.low) c.before.args.i) (column_at (λ (r : Utf8Row). r.high) c.before.args.i)
+    c.between.ensures ∙ between_is c.args.b (column_at (λ (r : Utf8Row). r.low) c.args.i) (column_at (λ (r : Utf8Row). r.high) c.args.i)
 
 pub continues_spec : {M : Type 1} → statement M
 continues_spec =

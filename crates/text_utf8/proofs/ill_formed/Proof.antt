@@ -10,48 +10,48 @@ use Rattle.text_utf8.proofs.Characters.{Scanning, scan_start, scan_past, scan_mo
 use Rattle.text_utf8.proofs.ill_formed.Statement.{statement}
 use Rattle.text_utf8.proofs.ill_formed.Tie as tie
 
-abbrev invariant-loop : tie.invariant-loop
+abbrev invariant-loop : tie.invariant-loop-at
 invariant-loop text at₀ at = Scanning text at
 
-abbrev decreases-loop : tie.decreases-loop
+abbrev decreases-loop : tie.decreases-loop-at
 decreases-loop text at₀ at = length text - at
 
-passed : (c : tie.After-next invariant-loop decreases-loop) → Follows (character (get_or c.before.before.before.before.before.before.before.args.text.now c.before.before.before.before.loop.at 0) (drop (c.before.before.before.before.loop.at + 1) c.before.before.before.before.before.before.before.args.text.now)) c.before.before.before.before.before.before.before.args.text.now (c.before.before.before.before.loop.at + 1) c.next.given.0.0
+passed : (c : tie.In-At invariant-loop decreases-loop) → Follows (character (get_or c.args.text.now c.loop-at.at 0) (drop (c.loop-at.at + 1) c.args.text.now)) c.args.text.now (c.loop-at.at + 1) c.in-At.next
 passed c =
-    let x = c.before.before.before.before.before.before.before.args.text.now in
-    subst (Passed (character (get_or x c.before.before.before.before.loop.at 0) (drop (c.before.before.before.before.loop.at + 1) x)) x (c.before.before.before.before.loop.at + 1)) c.next.given.1 c.before.before.character.ensures
+    let x = c.args.text.now in
+    subst (Passed (character (get_or x c.loop-at.at 0) (drop (c.loop-at.at + 1) x)) x (c.loop-at.at + 1)) c.in-At.is c.character.ensures
 
-loop-holds : tie.Need-loop-init invariant-loop decreases-loop
-loop-holds c = scan_past (scan_start c.before.before.args.text.now) c.past_ascii.ensures
+loop-holds : tie.Need-loop-at-init invariant-loop decreases-loop
+loop-holds c = scan_past (scan_start c.args.text.now) c.past_ascii-at.ensures
 
-past-ascii-requires : tie.Need-past-ascii-requires invariant-loop decreases-loop
+past-ascii-requires : tie.Need-past_ascii-at-requires invariant-loop decreases-loop
 past-ascii-requires c κs = omega arith
 
-past-ascii-requires-2 : tie.Need-past-ascii-requires-2 invariant-loop decreases-loop
-past-ascii-requires-2 c κs = (passed c.before).inside
+past-ascii-requires-2 : tie.Need-past_ascii-at-requires-in-loop-at invariant-loop decreases-loop
+past-ascii-requires-2 c κs = (passed c).inside
 
 character-requires : tie.Need-character-requires invariant-loop decreases-loop
 character-requires c κs = search rules
 
-enum-known-next : tie.Need-enum-known-next invariant-loop decreases-loop
+enum-known-next : tie.Need-enum_known-next invariant-loop decreases-loop
 enum-known-next c = search rules
 
-enum_told : tie.Need-enum-told invariant-loop decreases-loop
+enum_told : tie.Need-enum_told-1 invariant-loop decreases-loop
 enum_told c = search rules
 
-returns : tie.Need-returns invariant-loop decreases-loop
+returns : tie.Need-returns-in_default invariant-loop decreases-loop
 returns c =
-    let x = c.before.before.before.before.before.before.before.args.text.now in
-    scan_bad c.before.before.before.before.loop.invariant c.before.before.before.loop-test.true (subst (Passed (character (get_or x c.before.before.before.before.loop.at 0) (drop (c.before.before.before.before.loop.at + 1) x)) x (c.before.before.before.before.loop.at + 1)) c.enum_told.given.1 c.before.before.character.ensures)
+    let x = c.args.text.now in
+    scan_bad c.loop-at.invariant c.loop-at-test.true (subst (Passed (character (get_or x c.loop-at.at 0) (drop (c.loop-at.at + 1) x)) x (c.loop-at.at + 1)) c.in_default.is c.character.ensures)
 
-loop-less : tie.Need-loop-smaller invariant-loop decreases-loop
-loop-less c = let g = passed c.before.before in omega (arith, c.past-ascii2.ensures.0)
+loop-less : tie.Need-loop-at-smaller invariant-loop decreases-loop
+loop-less c = let g = passed c.before in omega (arith, c.past_ascii-at-in-loop-at.ensures.0)
 
-loop-again : tie.Need-loop-preserved invariant-loop decreases-loop
-loop-again c = scan_past (scan_more c.before.before.before.before.before.before.loop.invariant c.before.before.before.before.before.loop-test.true (passed c.before.before)) c.past-ascii2.ensures
+loop-again : tie.Need-loop-at-preserved invariant-loop decreases-loop
+loop-again c = scan_past (scan_more c.loop-at.invariant c.loop-at-test.true (passed c.before)) c.past_ascii-at-in-loop-at.ensures
 
-returns-2 : tie.Need-returns-2 invariant-loop decreases-loop
-returns-2 c = scan_end c.before.loop.invariant c.loop-test.false
+returns-2 : tie.Need-returns invariant-loop decreases-loop
+returns-2 c = scan_end c.loop-at.invariant c.loop-at-test.false
 
 pub ill_formed_spec : {M : Type 1} → statement M
 ill_formed_spec =

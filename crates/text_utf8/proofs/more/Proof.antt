@@ -5,10 +5,10 @@ use Rattle.text_utf8.proofs.Characters.{column_at}
 use Rattle.text_utf8.proofs.more.Statement.{statement}
 use Rattle.text_utf8.proofs.more.Tie as tie
 
-mul-result : tie.Need-overflow-mul-result
+mul-result : tie.Need-offset_bounds-i
 mul-result c = search rules
 
-array-read-result : tie.Need-array-read-result
+array-read-result : tie.Need-bounds-i
 array-read-result c = search rules
 
 returns : tie.Need-returns

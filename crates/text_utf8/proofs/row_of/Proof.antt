@@ -7,32 +7,32 @@ use Rattle.text_utf8.proofs.Characters.{Searching, row_here, row_later, row_none
 use Rattle.text_utf8.proofs.row_of.Statement.{statement}
 use Rattle.text_utf8.proofs.row_of.Tie as tie
 
-abbrev invariant-loop : tie.invariant-loop
+abbrev invariant-loop : tie.invariant-loop-i
 invariant-loop b i₀ i = Searching b i
 
-abbrev decreases-loop : tie.decreases-loop
+abbrev decreases-loop : tie.decreases-loop-i
 decreases-loop b i₀ i = 8 - i
 
-loop-holds : tie.Need-loop-init invariant-loop decreases-loop
+loop-holds : tie.Need-loop-i-init invariant-loop decreases-loop
 loop-holds c = record { inside = omega arith; same = λ t. refl }
 
 begins-requires : tie.Need-begins-requires invariant-loop decreases-loop
 begins-requires c κs = search rules
 
-returns : tie.Need-returns invariant-loop decreases-loop
-returns c = record { below = c.before.before.loop-test.true; is = λ t. c.before.before.before.loop.invariant.same t ∙ row_here c.before.before.before.before.args.b c.before.before.before.loop.i t c.before.before.loop-test.true (sym c.before.begins.ensures ∙ c.if1.true) }
+returns : tie.Need-returns-then-begins invariant-loop decreases-loop
+returns c = record { below = c.loop-i-test.true; is = λ t. c.loop-i.invariant.same t ∙ row_here c.args.b c.loop-i.i t c.loop-i-test.true (sym c.begins.ensures ∙ c.if-begins.true) }
 
-add-i : tie.Need-overflow-add-i invariant-loop decreases-loop
+add-i : tie.Need-overflow_add-i invariant-loop decreases-loop
 add-i c = omega arith
 
-loop-less : tie.Need-loop-smaller invariant-loop decreases-loop
+loop-less : tie.Need-loop-i-smaller invariant-loop decreases-loop
 loop-less c = omega arith
 
-loop-again : tie.Need-loop-preserved invariant-loop decreases-loop
-loop-again c = record { inside = omega arith; same = λ t. c.before.before.before.loop.invariant.same t ∙ row_later c.before.before.before.before.args.b c.before.before.before.loop.i t c.before.before.loop-test.true (sym c.before.begins.ensures ∙ c.if1.false) }
+loop-again : tie.Need-loop-i-preserved invariant-loop decreases-loop
+loop-again c = record { inside = omega arith; same = λ t. c.loop-i.invariant.same t ∙ row_later c.args.b c.loop-i.i t c.loop-i-test.true (sym c.begins.ensures ∙ c.if-begins.false) }
 
-returns-2 : tie.Need-returns-2 invariant-loop decreases-loop
-returns-2 c = let e : c.before.loop.i ≡ 8 = omega arith in λ t. c.before.loop.invariant.same t ∙ row_none c.before.before.args.b c.before.loop.i t e
+returns-2 : tie.Need-returns invariant-loop decreases-loop
+returns-2 c = let e : c.loop-i.i ≡ 8 = omega arith in λ t. c.loop-i.invariant.same t ∙ row_none c.args.b c.loop-i.i t e
 
 pub row_of_spec : {M : Type 1} → statement M
 row_of_spec =

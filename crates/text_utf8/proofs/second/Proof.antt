@@ -10,16 +10,16 @@ use Rattle.text_utf8.proofs.Characters.{second_read, second_other, second_short,
 use Rattle.text_utf8.proofs.second.Statement.{statement}
 use Rattle.text_utf8.proofs.second.Tie as tie
 
-returns : tie.Need-returns
-returns c = second_short c.before.before.args.text.now c.before.before.args.at (row_at utf8_rows c.before.before.args.i) c.if1.true
+returns : tie.Need-returns-then-text-at
+returns c = second_short c.args.text.now c.args.at (row_at utf8_rows c.args.i) c.if-text-at.true
 
-shared-slice-read-continues : tie.Need-shared-slice-read-continues
+shared-slice-read-continues : tie.Need-bounds-text-at
 shared-slice-read-continues c = search rules
 
 continues-requires : tie.Need-continues-requires
 continues-requires c κs = search rules
 
-add-tails : tie.Need-overflow-add-tails
+add-tails : tie.Need-overflow_add-at
 add-tails c = search rules
 
 more-requires : tie.Need-more-requires
@@ -28,16 +28,16 @@ more-requires c κs = search rules
 tails-requires : tie.Need-tails-requires
 tails-requires c κs = search rules
 
-returns-2 : tie.Need-returns-2
+returns-2 : tie.Need-returns-then-continues
 returns-2 c =
-    let x = c.before.before.before.before.before.before.before.args.text.now in
-    let l : c.before.before.before.before.before.before.before.args.at ≤ c.before.before.before.before.before.before.before.args.at + 1 = omega arith in
+    let x = c.args.text.now in
+    let l : c.args.at ≤ c.args.at + 1 = omega arith in
     passed_is x
-    (second_read x c.before.before.before.before.before.before.before.args.at (row_at utf8_rows c.before.before.before.before.before.before.before.args.i) c.before.before.before.before.before.if1.false (sym c.before.before.before.continues.ensures ∙ c.before.before.if2.true) ∙ ap (λ (n : ℕ). tails n (drop (c.before.before.before.before.before.before.before.args.at + 1) x)) (sym c.before.more.ensures))
+    (second_read x c.args.at (row_at utf8_rows c.args.i) c.if-text-at.false (sym c.continues.ensures ∙ c.if-continues.true) ∙ ap (λ (n : ℕ). tails n (drop (c.args.at + 1) x)) (sym c.more.ensures))
     l c.tails.result c.tails.ensures
 
-returns-3 : tie.Need-returns-3
-returns-3 c = second_other c.before.before.before.before.before.args.text.now c.before.before.before.before.before.args.at (row_at utf8_rows c.before.before.before.before.before.args.i) c.before.before.before.if1.false (sym c.before.continues.ensures ∙ c.if2.false)
+returns-3 : tie.Need-returns
+returns-3 c = second_other c.args.text.now c.args.at (row_at utf8_rows c.args.i) c.if-text-at.false (sym c.continues.ensures ∙ c.if-continues.false)
 
 pub second_spec : {M : Type 1} → statement M
 second_spec =

@@ -7,46 +7,46 @@ use Rattle.text_utf8.proofs.Characters.{Tailing, tails_more, tails_other, tails_
 use Rattle.text_utf8.proofs.tails.Statement.{statement}
 use Rattle.text_utf8.proofs.tails.Tie as tie
 
-abbrev invariant-loop : tie.invariant-loop
+abbrev invariant-loop : tie.invariant-loop-left
 invariant-loop text from n at₀ left₀ at left = Tailing text n from left at
 
-abbrev decreases-loop : tie.decreases-loop
+abbrev decreases-loop : tie.decreases-loop-left
 decreases-loop text from n at₀ left₀ at left = left
 
-loop-holds : tie.Need-loop-init invariant-loop decreases-loop
-loop-holds c = record { inside = c.before.requires; onward = omega arith; same = refl }
+loop-holds : tie.Need-loop-left-init invariant-loop decreases-loop
+loop-holds c = record { inside = c.requires; onward = omega arith; same = refl }
 
-returns : tie.Need-returns invariant-loop decreases-loop
-returns c = c.before.before.loop.invariant.same ∙ tails_short c.before.before.before.before.args.text.now c.before.before.loop.at c.before.before.loop.left c.before.loop-test.true c.if1.true
+returns : tie.Need-returns-then-text-at invariant-loop decreases-loop
+returns c = c.loop-left.invariant.same ∙ tails_short c.args.text.now c.loop-left.at c.loop-left.left c.loop-left-test.true c.if-text-at.true
 
-shared-slice-read-between : tie.Need-shared-slice-read-between invariant-loop decreases-loop
+shared-slice-read-between : tie.Need-bounds-text-at invariant-loop decreases-loop
 shared-slice-read-between c = omega arith
 
 between-requires : tie.Need-between-requires invariant-loop decreases-loop
 between-requires c κs = search rules
 
-returns-2 : tie.Need-returns-2 invariant-loop decreases-loop
-returns-2 c = c.before.before.before.before.before.loop.invariant.same ∙ tails_other c.before.before.before.before.before.before.before.args.text.now c.before.before.before.before.before.loop.at c.before.before.before.before.before.loop.left c.before.before.before.before.loop-test.true c.before.before.before.if1.false (sym c.before.between.ensures ∙ not-true _ c.if2.true)
+returns-2 : tie.Need-returns-then-not-between invariant-loop decreases-loop
+returns-2 c = c.loop-left.invariant.same ∙ tails_other c.args.text.now c.loop-left.at c.loop-left.left c.loop-left-test.true c.if-text-at.false (sym c.between.ensures ∙ not-true _ c.if-not-between.true-raw)
 
-add_at : tie.Need-overflow-add-at invariant-loop decreases-loop
+add_at : tie.Need-overflow_add-at invariant-loop decreases-loop
 add_at c = omega arith
 
-sub-left : tie.Need-overflow-sub-left invariant-loop decreases-loop
+sub-left : tie.Need-overflow_sub-left invariant-loop decreases-loop
 sub-left c = omega arith
 
-loop-less : tie.Need-loop-smaller invariant-loop decreases-loop
+loop-less : tie.Need-loop-left-smaller invariant-loop decreases-loop
 loop-less c = omega arith
 
-loop-again : tie.Need-loop-preserved invariant-loop decreases-loop
+loop-again : tie.Need-loop-left-preserved invariant-loop decreases-loop
 loop-again c =
     record {
       inside = omega arith;
       onward = omega arith;
-      same = c.before.before.before.before.before.loop.invariant.same ∙ tails_more c.before.before.before.before.before.before.before.args.text.now c.before.before.before.before.before.loop.at c.before.before.before.before.before.loop.left c.before.before.before.before.loop-test.true c.before.before.before.if1.false (sym c.before.between.ensures ∙ not-false _ c.if2.false);
+      same = c.loop-left.invariant.same ∙ tails_more c.args.text.now c.loop-left.at c.loop-left.left c.loop-left-test.true c.if-text-at.false (sym c.between.ensures ∙ not-false _ c.if-not-between.false-raw);
     }
 
-returns-3 : tie.Need-returns-3 invariant-loop decreases-loop
-returns-3 c = record { is = c.before.loop.invariant.same ∙ tails_done c.before.before.before.args.text.now c.before.loop.at c.before.loop.left c.loop-test.false; inside = c.before.loop.invariant.inside; onward = c.before.loop.invariant.onward }
+returns-3 : tie.Need-returns invariant-loop decreases-loop
+returns-3 c = record { is = c.loop-left.invariant.same ∙ tails_done c.args.text.now c.loop-left.at c.loop-left.left c.loop-left-test.false; inside = c.loop-left.invariant.inside; onward = c.loop-left.invariant.onward }
 
 pub tails_spec : {M : Type 1} → statement M
 tails_spec =

@@ -6,56 +6,56 @@ use Rattle.text_words.proofs.Loops.{Counting, CountBehind, count_ended, count_op
 use Rattle.text_words.proofs.count_words.Statement.{statement}
 use Rattle.text_words.proofs.count_words.Tie as tie
 
-abbrev invariant-loop : tie.invariant-loop
+abbrev invariant-loop : tie.invariant-loop-at
 invariant-loop text from to count known₀ start₀ previous₀ at₀ known start previous at = Counting text from to known₀ known start previous at
 
-abbrev decreases-loop : tie.decreases-loop
+abbrev decreases-loop : tie.decreases-loop-at
 decreases-loop text from to count known₀ start₀ previous₀ at₀ known start previous at = to - at
 
 -- what is known after the `if`
-after : (c : tie.Joined1 invariant-loop decreases-loop) → CountBehind c.before.before.before.before.loop.start c.before.before.before.before.loop.at c.before.before.before.before.loop.known c.before.turn.result.ended c.if1.known
+after : (c : tie.Joined-next invariant-loop decreases-loop) → CountBehind c.loop-at.start c.loop-at.at c.loop-at.known c.turn-next.result.ended c.if-next.known
 after c =
     ⊎_elim
-    (λ w. rw w.2 (count_ended c.before.before.before.before.loop.start c.before.before.before.before.loop.at c.before.before.before.before.loop.known w.0.taken w.1.ensures.0 w.1.ensures.1))
-    (λ w. rw w.1 (count_open c.before.before.before.before.loop.start c.before.before.before.before.loop.at c.before.before.before.before.loop.known w.0.left))
-    c.if1.branch
+    (λ w. rw w.known-is (count_ended c.loop-at.start c.loop-at.at c.loop-at.known w.if-next.true w.keep_count-known.ensures.0 w.keep_count-known.ensures.1))
+    (λ w. rw w.known-is (count_open c.loop-at.start c.loop-at.at c.loop-at.known w.if-next.false))
+    c.if-next.branch-raw
 
-loop-holds : tie.Need-loop-init invariant-loop decreases-loop
+loop-holds : tie.Need-loop-at-init invariant-loop decreases-loop
 loop-holds c =
-    let a = c.before.args in
-    counting_first a.text.now a.from a.to a.count c.before.requires.0
+    let a = c.args in
+    counting_first a.text.now a.from a.to a.count c.requires.0
 
-shared-slice-read-b : tie.Need-shared-slice-read-b invariant-loop decreases-loop
+shared-slice-read-b : tie.Need-bounds-text-at invariant-loop decreases-loop
 shared-slice-read-b c = omega arith
 
-turn-requires : tie.Need-turn-requires invariant-loop decreases-loop
-turn-requires c κs = (c.before.before.loop.invariant.opened, omega arith)
+turn-requires : tie.Need-turn-next-requires invariant-loop decreases-loop
+turn-requires c κs = (c.loop-at.invariant.opened, omega arith)
 
-keep-count-requires : tie.Need-keep-count-requires invariant-loop decreases-loop
-keep-count-requires c κs = c.before.before.before.before.loop.invariant.opened
+keep-count-requires : tie.Need-keep_count-known-requires invariant-loop decreases-loop
+keep-count-requires c κs = c.loop-at.invariant.opened
 
-add_at : tie.Need-overflow-add-at invariant-loop decreases-loop
+add_at : tie.Need-overflow_add-at invariant-loop decreases-loop
 add_at c = omega arith
 
-loop-less : tie.Need-loop-smaller invariant-loop decreases-loop
+loop-less : tie.Need-loop-at-smaller invariant-loop decreases-loop
 loop-less c = omega arith
 
-loop-again : tie.Need-loop-preserved invariant-loop decreases-loop
+loop-again : tie.Need-loop-at-preserved invariant-loop decreases-loop
 loop-again c =
-    let a = c.before.before.before.before.before.before.args in
-    let l = c.before.before.before.before.loop in
-    counting_next a.text.now a.from a.to c.before.before.before.before.before.before.requires.1.0 l.start l.previous l.at c.before.before.before.loop-test.true c.before.turn.result c.before.turn.ensures a.count l.known c.if1.known l.invariant (after c)
+    let a = c.args in
+    let l = c.loop-at in
+    counting_next a.text.now a.from a.to c.requires.1.0 l.start l.previous l.at c.loop-at-test.true c.turn-next.result c.turn-next.ensures a.count l.known c.if-next.known l.invariant (after c)
 
-keep-count-requires-2 : tie.Need-keep-count-requires-2 invariant-loop decreases-loop
+keep-count-requires-2 : tie.Need-keep_count-requires invariant-loop decreases-loop
 keep-count-requires-2 c κs =
-    let l = c.before.loop in
+    let l = c.loop-at in
     omega (arith, l.invariant.opened, l.invariant.within)
 
 returns : tie.Need-returns invariant-loop decreases-loop
 returns c =
-    let a = c.before.before.before.before.args in
-    let l = c.before.before.loop in
-    (counting_last a.text.now a.from a.to a.count l.known c.keep-count2.result l.start l.previous l.at l.invariant c.before.loop-test.false c.keep-count2.ensures.0, omega (arith, l.invariant.more, c.keep-count2.ensures.1))
+    let a = c.args in
+    let l = c.loop-at in
+    (counting_last a.text.now a.from a.to a.count l.known c.keep_count.result l.start l.previous l.at l.invariant c.loop-at-test.false c.keep_count.ensures.0, omega (arith, l.invariant.more, c.keep_count.ensures.1))
 
 pub count_words_spec : {M : Type 1} → statement M
 count_words_spec =

@@ -10,19 +10,19 @@ use Rattle.text_words.proofs.Loops.{kept_room}
 use Rattle.text_words.proofs.keep_count.Statement.{statement}
 use Rattle.text_words.proofs.keep_count.Tie as tie
 
-is-kept-requires : tie.Need-is-kept-requires
+is-kept-requires : tie.Need-is_kept-requires
 is-kept-requires c κs = search rules
 
-add-result : tie.Need-overflow-add-result
+add-result : tie.Need-overflow_add-result
 add-result c =
-    let k : c.before.before.args.known < 26 = kept_room true (c.before.before.args.end - c.before.before.args.start) (sym c.before.is-kept.ensures ∙ c.if1.true) in
+    let k : c.args.known < 26 = kept_room true (c.args.end - c.args.start) (sym c.is_kept.ensures ∙ c.if-is_kept.true) in
     omega (arith, k)
 
-returns : tie.Need-returns
-returns c = (add-one c.before.before.args.known ∙ sym (count_kept (c.before.before.args.end - c.before.before.args.start) c.before.before.args.known (sym c.before.is-kept.ensures ∙ c.if1.true)), omega arith)
+returns : tie.Need-returns-then-is_kept
+returns c = (add-one c.args.known ∙ sym (count_kept (c.args.end - c.args.start) c.args.known (sym c.is_kept.ensures ∙ c.if-is_kept.true)), omega arith)
 
-returns-2 : tie.Need-returns-2
-returns-2 c = (sym (count_left (c.before.before.args.end - c.before.before.args.start) c.before.before.args.known (sym c.before.is-kept.ensures ∙ c.if1.false)), omega arith)
+returns-2 : tie.Need-returns
+returns-2 c = (sym (count_left (c.args.end - c.args.start) c.args.known (sym c.is_kept.ensures ∙ c.if-is_kept.false)), omega arith)
 
 pub keep_count_spec : {M : Type 1} → statement M
 keep_count_spec = tie.close (tie.spec is-kept-requires add-result returns returns-2)

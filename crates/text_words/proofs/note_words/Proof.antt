@@ -11,113 +11,113 @@ use Rattle.text_words.proofs.Loops.{Sized, sized_stored, kept_room, Noting, Behi
 use Rattle.text_words.proofs.note_words.Statement.{statement}
 use Rattle.text_words.proofs.note_words.Tie as tie
 
-abbrev invariant-loop : tie.invariant-loop
+abbrev invariant-loop : tie.invariant-loop-at
 invariant-loop text from to known₀ start₀ previous₀ at₀ known start previous at = Noting text from to known₀ known start previous at × Sized known
 
-abbrev decreases-loop : tie.decreases-loop
+abbrev decreases-loop : tie.decreases-loop-at
 decreases-loop text from to known₀ start₀ previous₀ at₀ known start previous at = to - at
 
-inside : (c : tie.In-loop invariant-loop decreases-loop) → c.before.loop.at ≤ length c.before.before.before.args.text.now
-inside c = omega (arith, c.loop-test.true, c.before.before.before.requires.1.0)
+inside : (c : tie.In-loop-at invariant-loop decreases-loop) → c.loop-at.at ≤ length c.args.text.now
+inside c = omega (arith, c.loop-at-test.true, c.requires.1.0)
 
 -- what is known after the `if` of a turn
-after : (c : tie.Joined1 invariant-loop decreases-loop) → Behind c.before.before.before.before.before.before.before.args.text.now c.before.before.before.before.before.loop.start c.before.before.before.before.before.loop.at c.before.before.before.before.before.loop.known c.before.before.turn.result.ended c.if1.known × Sized c.if1.known
+after : (c : tie.Joined-is_kept invariant-loop decreases-loop) → Behind c.args.text.now c.loop-at.start c.loop-at.at c.loop-at.known c.turn-next.result.ended c.if-is_kept.known × Sized c.if-is_kept.known
 after c =
     ⊎_elim
-    (λ w. rw w.1 (kept_stored c.before.before.before.before.before.before.before.args.text.now c.before.before.before.before.before.loop.start c.before.before.before.before.before.loop.at c.before.before.before.before.before.loop.known c.before.before.before.before.before.loop.invariant.0.opened (inside c.before.before.before.before) c.before.before.before.before.before.loop.invariant.0.fitting c.before.before.turn.result.ended c.before.before.before.before.before.loop.invariant.1 (sym c.before.is-kept.ensures ∙ w.0.taken), sized_stored c.before.before.before.before.before.loop.start c.before.before.before.before.before.loop.at c.before.before.before.before.before.loop.invariant.1))
-    (λ w. rw w.1 (kept_not c.before.before.before.before.before.before.before.args.text.now c.before.before.before.before.before.loop.start c.before.before.before.before.before.loop.at c.before.before.before.before.before.loop.known c.before.before.before.before.before.loop.invariant.0.opened (inside c.before.before.before.before) c.before.before.before.before.before.loop.invariant.0.fitting c.before.before.turn.result.ended (sym c.before.is-kept.ensures ∙ w.0.left), c.before.before.before.before.before.loop.invariant.1))
-    c.if1.branch
+    (λ w. rw w.known-is (kept_stored c.args.text.now c.loop-at.start c.loop-at.at c.loop-at.known c.loop-at.invariant.0.opened (inside c.before.before.before.before) c.loop-at.invariant.0.fitting c.turn-next.result.ended c.loop-at.invariant.1 (sym c.is_kept.ensures ∙ w.if-is_kept.true), sized_stored c.loop-at.start c.loop-at.at c.loop-at.invariant.1))
+    (λ w. rw w.known-is (kept_not c.args.text.now c.loop-at.start c.loop-at.at c.loop-at.known c.loop-at.invariant.0.opened (inside c.before.before.before.before) c.loop-at.invariant.0.fitting c.turn-next.result.ended (sym c.is_kept.ensures ∙ w.if-is_kept.false), c.loop-at.invariant.1))
+    c.if-is_kept.branch-raw
 
 -- there is room for a word that is kept
-room : (c : tie.Then1 invariant-loop decreases-loop) → c.before.before.before.before.before.loop.known.count < 26
-room c = kept_room c.before.before.turn.result.ended (c.before.before.before.before.before.loop.at - c.before.before.before.before.before.loop.start) (sym c.before.is-kept.ensures ∙ c.if1.true)
+room : (c : tie.Then-is_kept invariant-loop decreases-loop) → c.loop-at.known.count < 26
+room c = kept_room c.turn-next.result.ended (c.loop-at.at - c.loop-at.start) (sym c.is_kept.ensures ∙ c.if-is_kept.true)
 
-room_2 : (c : tie.Then2 invariant-loop decreases-loop) → c.before.before.before.loop.known.count < 26
-room_2 c = kept_room true (c.before.before.before.before.before.args.to - c.before.before.before.loop.start) (sym c.before.is-kept2.ensures ∙ c.if2.true)
+room_2 : (c : tie.Then-is_kept-2 invariant-loop decreases-loop) → c.loop-at.known.count < 26
+room_2 c = kept_room true (c.args.to - c.loop-at.start) (sym c.is_kept-2.ensures ∙ c.if-is_kept-2.true)
 
-loop-holds : tie.Need-loop-init invariant-loop decreases-loop
-loop-holds c = (noting_first c.before.args.text.now c.before.args.from c.before.args.to c.before.args.w c.before.requires.0 c.before.requires.1.1.1, record { starts = search rules; lengths = search rules })
+loop-holds : tie.Need-loop-at-init invariant-loop decreases-loop
+loop-holds c = (noting_first c.args.text.now c.args.from c.args.to c.args.w c.requires.0 c.requires.1.1.1, record { starts = search rules; lengths = search rules })
 
-shared-slice-read-b : tie.Need-shared-slice-read-b invariant-loop decreases-loop
+shared-slice-read-b : tie.Need-bounds-text-at invariant-loop decreases-loop
 shared-slice-read-b c = omega arith
 
-turn-requires : tie.Need-turn-requires invariant-loop decreases-loop
-turn-requires c κs = (c.before.before.loop.invariant.0.opened, omega arith)
+turn-requires : tie.Need-turn-next-requires invariant-loop decreases-loop
+turn-requires c κs = (c.loop-at.invariant.0.opened, omega arith)
 
-is-kept-requires : tie.Need-is-kept-requires invariant-loop decreases-loop
-is-kept-requires c κs = c.before.before.before.loop.invariant.0.opened
+is-kept-requires : tie.Need-is_kept-requires invariant-loop decreases-loop
+is-kept-requires c κs = c.loop-at.invariant.0.opened
 
-cast-known : tie.Need-overflow-cast-known invariant-loop decreases-loop
-cast-known c = omega (arith, c.before.before.before.before.before.loop.invariant.0.opened)
+cast-known : tie.Need-overflow_cast-known invariant-loop decreases-loop
+cast-known c = omega (arith, c.loop-at.invariant.0.opened)
 
-mul-known : tie.Need-overflow-mul-known invariant-loop decreases-loop
+mul-known : tie.Need-offset_bounds-known-count invariant-loop decreases-loop
 mul-known c = omega (arith, room c)
 
-element-write-known : tie.Need-element-write-known invariant-loop decreases-loop
+element-write-known : tie.Need-bounds-known-count invariant-loop decreases-loop
 element-write-known c = room c
 
-sub-known : tie.Need-overflow-sub-known invariant-loop decreases-loop
-sub-known c = c.before.before.before.before.before.loop.invariant.0.opened
+sub-known : tie.Need-overflow_sub-known invariant-loop decreases-loop
+sub-known c = c.loop-at.invariant.0.opened
 
-cast-known-2 : tie.Need-overflow-cast-known-2 invariant-loop decreases-loop
+cast-known-2 : tie.Need-overflow_cast-known-then-is_kept invariant-loop decreases-loop
 cast-known-2 c = omega arith
 
-mul-known-2 : tie.Need-overflow-mul-known-2 invariant-loop decreases-loop
+mul-known-2 : tie.Need-offset_bounds-known-count-then-is_kept invariant-loop decreases-loop
 mul-known-2 c = omega (arith, room c)
 
-element-write-known-2 : tie.Need-element-write-known-2 invariant-loop decreases-loop
+element-write-known-2 : tie.Need-bounds-known-count-then-is_kept invariant-loop decreases-loop
 element-write-known-2 c = room c
 
-add-known : tie.Need-overflow-add-known invariant-loop decreases-loop
+add-known : tie.Need-overflow_add-known invariant-loop decreases-loop
 add-known c = omega (arith, room c)
 
-add_at : tie.Need-overflow-add-at invariant-loop decreases-loop
+add_at : tie.Need-overflow_add-at invariant-loop decreases-loop
 add_at c = omega arith
 
-loop-less : tie.Need-loop-smaller invariant-loop decreases-loop
+loop-less : tie.Need-loop-at-smaller invariant-loop decreases-loop
 loop-less c = omega arith
 
-loop-again : tie.Need-loop-preserved invariant-loop decreases-loop
-loop-again c = (noting_next c.before.before.before.before.before.before.before.args.text.now c.before.before.before.before.before.before.before.args.from c.before.before.before.before.before.before.before.args.to c.before.before.before.before.before.before.before.requires.1.0 c.before.before.before.before.before.loop.start c.before.before.before.before.before.loop.previous c.before.before.before.before.before.loop.at c.before.before.before.before.loop-test.true c.before.before.turn.result c.before.before.turn.ensures c.before.before.before.before.before.before.before.args.w c.before.before.before.before.before.loop.known c.if1.known c.before.before.before.before.before.loop.invariant.0 (after c).0, (after c).1)
+loop-again : tie.Need-loop-at-preserved invariant-loop decreases-loop
+loop-again c = (noting_next c.args.text.now c.args.from c.args.to c.requires.1.0 c.loop-at.start c.loop-at.previous c.loop-at.at c.loop-at-test.true c.turn-next.result c.turn-next.ensures c.args.w c.loop-at.known c.if-is_kept.known c.loop-at.invariant.0 (after c).0, (after c).1)
 
-is-kept-requires-2 : tie.Need-is-kept-requires-2 invariant-loop decreases-loop
-is-kept-requires-2 c κs = omega (arith, c.before.loop.invariant.0.opened, c.before.loop.invariant.0.within)
+is-kept-requires-2 : tie.Need-is_kept-requires-2 invariant-loop decreases-loop
+is-kept-requires-2 c κs = omega (arith, c.loop-at.invariant.0.opened, c.loop-at.invariant.0.within)
 
-cast-known-3 : tie.Need-overflow-cast-known-3 invariant-loop decreases-loop
-cast-known-3 c = omega (arith, c.before.before.before.loop.invariant.0.opened, c.before.before.before.loop.invariant.0.within, c.before.before.before.before.before.requires.1.0, c.before.before.before.before.before.requires.1.1.0)
+cast-known-3 : tie.Need-overflow_cast-known-then-is_kept-2 invariant-loop decreases-loop
+cast-known-3 c = omega (arith, c.loop-at.invariant.0.opened, c.loop-at.invariant.0.within, c.requires.1.0, c.requires.1.1.0)
 
-mul-known-3 : tie.Need-overflow-mul-known-3 invariant-loop decreases-loop
+mul-known-3 : tie.Need-offset_bounds-known-count-then-is_kept-2 invariant-loop decreases-loop
 mul-known-3 c = omega (arith, room_2 c)
 
-element-write-known-3 : tie.Need-element-write-known-3 invariant-loop decreases-loop
+element-write-known-3 : tie.Need-bounds-known-count-then-is_kept-2 invariant-loop decreases-loop
 element-write-known-3 c = room_2 c
 
-sub-known-2 : tie.Need-overflow-sub-known-2 invariant-loop decreases-loop
-sub-known-2 c = omega (arith, c.before.before.before.loop.invariant.0.opened, c.before.before.before.loop.invariant.0.within)
+sub-known-2 : tie.Need-overflow_sub-known-then-is_kept-2 invariant-loop decreases-loop
+sub-known-2 c = omega (arith, c.loop-at.invariant.0.opened, c.loop-at.invariant.0.within)
 
-cast-known-4 : tie.Need-overflow-cast-known-4 invariant-loop decreases-loop
-cast-known-4 c = omega (arith, c.before.before.before.before.before.requires.1.0, c.before.before.before.before.before.requires.1.1.0)
+cast-known-4 : tie.Need-overflow_cast-known-then-is_kept-2-2 invariant-loop decreases-loop
+cast-known-4 c = omega (arith, c.requires.1.0, c.requires.1.1.0)
 
-mul-known-4 : tie.Need-overflow-mul-known-4 invariant-loop decreases-loop
+mul-known-4 : tie.Need-offset_bounds-known-count-then-is_kept-2-2 invariant-loop decreases-loop
 mul-known-4 c = omega (arith, room_2 c)
 
-element-write-known-4 : tie.Need-element-write-known-4 invariant-loop decreases-loop
+element-write-known-4 : tie.Need-bounds-known-count-then-is_kept-2-2 invariant-loop decreases-loop
 element-write-known-4 c = room_2 c
 
-add-known-2 : tie.Need-overflow-add-known-2 invariant-loop decreases-loop
+add-known-2 : tie.Need-overflow_add-known-then-is_kept-2 invariant-loop decreases-loop
 add-known-2 c = omega (arith, room_2 c)
 
-returns : tie.Need-returns invariant-loop decreases-loop
+returns : tie.Need-returns-then-is_kept-2 invariant-loop decreases-loop
 returns c =
-    let l : c.before.before.before.loop.start ≤ c.before.before.before.before.before.args.to = omega (arith, c.before.before.before.loop.invariant.0.opened, c.before.before.before.loop.invariant.0.within) in
-    noting_last c.before.before.before.before.before.args.text.now c.before.before.before.before.before.args.from c.before.before.before.before.before.args.to c.before.before.before.before.before.args.w c.before.before.before.loop.known (stored c.before.before.before.loop.known c.before.before.before.loop.start c.before.before.before.before.before.args.to) c.before.before.before.loop.start c.before.before.before.loop.previous c.before.before.before.loop.at c.before.before.before.loop.invariant.0 c.before.before.loop-test.false
-    (kept_stored c.before.before.before.before.before.args.text.now c.before.before.before.loop.start c.before.before.before.before.before.args.to c.before.before.before.loop.known l c.before.before.before.before.before.requires.1.0 c.before.before.before.loop.invariant.0.fitting true c.before.before.before.loop.invariant.1 (sym c.before.is-kept2.ensures ∙ c.if2.true))
+    let l : c.loop-at.start ≤ c.args.to = omega (arith, c.loop-at.invariant.0.opened, c.loop-at.invariant.0.within) in
+    noting_last c.args.text.now c.args.from c.args.to c.args.w c.loop-at.known (stored c.loop-at.known c.loop-at.start c.args.to) c.loop-at.start c.loop-at.previous c.loop-at.at c.loop-at.invariant.0 c.loop-at-test.false
+    (kept_stored c.args.text.now c.loop-at.start c.args.to c.loop-at.known l c.requires.1.0 c.loop-at.invariant.0.fitting true c.loop-at.invariant.1 (sym c.is_kept-2.ensures ∙ c.if-is_kept-2.true))
 
-returns-2 : tie.Need-returns-2 invariant-loop decreases-loop
+returns-2 : tie.Need-returns-else-is_kept-2 invariant-loop decreases-loop
 returns-2 c =
-    let l : c.before.before.before.loop.start ≤ c.before.before.before.before.before.args.to = omega (arith, c.before.before.before.loop.invariant.0.opened, c.before.before.before.loop.invariant.0.within) in
-    noting_last c.before.before.before.before.before.args.text.now c.before.before.before.before.before.args.from c.before.before.before.before.before.args.to c.before.before.before.before.before.args.w c.before.before.before.loop.known c.before.before.before.loop.known c.before.before.before.loop.start c.before.before.before.loop.previous c.before.before.before.loop.at c.before.before.before.loop.invariant.0 c.before.before.loop-test.false
-    (kept_not c.before.before.before.before.before.args.text.now c.before.before.before.loop.start c.before.before.before.before.before.args.to c.before.before.before.loop.known l c.before.before.before.before.before.requires.1.0 c.before.before.before.loop.invariant.0.fitting true (sym c.before.is-kept2.ensures ∙ c.if2.false))
+    let l : c.loop-at.start ≤ c.args.to = omega (arith, c.loop-at.invariant.0.opened, c.loop-at.invariant.0.within) in
+    noting_last c.args.text.now c.args.from c.args.to c.args.w c.loop-at.known c.loop-at.known c.loop-at.start c.loop-at.previous c.loop-at.at c.loop-at.invariant.0 c.loop-at-test.false
+    (kept_not c.args.text.now c.loop-at.start c.args.to c.loop-at.known l c.requires.1.0 c.loop-at.invariant.0.fitting true (sym c.is_kept-2.ensures ∙ c.if-is_kept-2.false))
 
 pub note_words_spec : {M : Type 1} → statement M
 note_words_spec =

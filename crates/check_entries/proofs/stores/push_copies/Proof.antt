@@ -6,36 +6,36 @@ use Rattle.check_entries.proofs.stores.Stores.{Copied, no_copies, one_copy, all_
 use Rattle.check_entries.proofs.stores.push_copies.Statement.{statement}
 use Rattle.check_entries.proofs.stores.push_copies.Tie as tie
 
-abbrev invariant-loop : tie.invariant-loop
+abbrev invariant-loop : tie.invariant-loop-i
 invariant-loop ws₀ ceiling times e next₀ i₀ ws next i = Copied ws₀ next₀ e ws next i × (i ≤ times)
 
-abbrev decreases-loop : tie.decreases-loop
+abbrev decreases-loop : tie.decreases-loop-i
 decreases-loop ws₀ ceiling times e next₀ i₀ ws next i = times - i
 
-loop-holds : tie.Need-loop-init invariant-loop decreases-loop
+loop-holds : tie.Need-loop-i-init invariant-loop decreases-loop
 loop-holds c = (no_copies _ _ _, omega arith)
 
 store-requires : tie.Need-store-requires invariant-loop decreases-loop
-store-requires c κs = omega (arith, c.before.before.loop.invariant.0.depth, c.before.before.loop.invariant.0.long, c.before.before.before.before.requires.0, c.before.before.before.before.requires.1)
+store-requires c κs = omega (arith, c.loop-i.invariant.0.depth, c.loop-i.invariant.0.long, c.requires.0, c.requires.1)
 
-add-next : tie.Need-overflow-add-next invariant-loop decreases-loop
-add-next c = omega (arith, c.before.before.before.before.before.loop.invariant.0.depth, c.before.before.before.before.before.before.before.requires.0, c.before.before.before.before.before.before.before.requires.1)
+add-next : tie.Need-overflow_add-next invariant-loop decreases-loop
+add-next c = omega (arith, c.loop-i.invariant.0.depth, c.requires.0, c.requires.1)
 
-add-i : tie.Need-overflow-add-i invariant-loop decreases-loop
+add-i : tie.Need-overflow_add-i invariant-loop decreases-loop
 add-i c = omega arith
 
-loop-less : tie.Need-loop-smaller invariant-loop decreases-loop
+loop-less : tie.Need-loop-i-smaller invariant-loop decreases-loop
 loop-less c = omega arith
 
-loop-again : tie.Need-loop-preserved invariant-loop decreases-loop
-loop-again c = (one_copy c.before.before.before.before.before.loop.invariant.0 c.before.before.store.ensures, omega arith)
+loop-again : tie.Need-loop-i-preserved invariant-loop decreases-loop
+loop-again c = (one_copy c.loop-i.invariant.0 c.store.ensures, omega arith)
 
-same_length : tie.Need-same-length invariant-loop decreases-loop
-same_length c = c.before.loop.invariant.0.long
+same_length : tie.Need-shape_of-ws invariant-loop decreases-loop
+same_length c = c.loop-i.invariant.0.long
 
 returns : tie.Need-returns invariant-loop decreases-loop
-returns c = let q : c.before.loop.i ≡ c.before.before.before.args.times = omega (arith, c.before.loop.invariant.1) in
-    all_copies c.before.before.before.requires.1 (subst (λ (n : ℕ). Copied c.before.before.before.args.ws.now c.before.before.before.args.st c.before.before.before.args.e c.before.loop.ws c.before.loop.next n) q c.before.loop.invariant.0)
+returns c = let q : c.loop-i.i ≡ c.args.times = omega (arith, c.loop-i.invariant.1) in
+    all_copies c.requires.1 (subst (λ (n : ℕ). Copied c.args.ws.now c.args.st c.args.e c.loop-i.ws c.loop-i.next n) q c.loop-i.invariant.0)
 
 pub push_copies_spec : {M : Type 1} → statement M
 push_copies_spec =

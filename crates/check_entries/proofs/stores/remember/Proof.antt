@@ -6,20 +6,20 @@ use borrow.Author.Rules.{rules}
 use Rattle.check_entries.proofs.stores.remember.Statement.{statement}
 use Rattle.check_entries.proofs.stores.remember.Tie as tie
 
-add-store : tie.Need-overflow-add-store
+add-store : tie.Need-overflow_add-ceiling
 add-store c = search rules
 
 store-requires : tie.Need-store-requires
 store-requires c κs = search rules
 
-add-next : tie.Need-overflow-add-next
+add-next : tie.Need-overflow_add-next
 add-next c = search rules
 
-same_length : tie.Need-same-length
+same_length : tie.Need-shape_of-ws
 same_length c = search rules
 
 returns : tie.Need-returns
-returns c = record { wrote = remembered_is c.before.before.before.before.before.args.st c.before.before.store.ensures c.before.before.before.before.before.requires.1 c.before.before.before.before.before.requires.2; depth = refl; budget = refl; seen = omega arith }
+returns c = record { wrote = remembered_is c.args.st c.store.ensures c.requires.1 c.requires.2; depth = refl; budget = refl; seen = omega arith }
 
 pub remember_spec : {M : Type 1} → statement M
 remember_spec = tie.close (tie.spec add-store store-requires add-next same_length returns)

@@ -6,40 +6,40 @@ use borrow.Author.Rules.{rules}
 use Rattle.check_entries.proofs.stores.store.Statement.{statement}
 use Rattle.check_entries.proofs.stores.store.Tie as tie
 
-mul-ws : tie.Need-overflow-mul-ws
+mul-ws : tie.Need-overflow_mul-ws
 mul-ws c = search rules
 
-mul-ws-2 : tie.Need-overflow-mul-ws-2
+mul-ws-2 : tie.Need-offset_bounds-ws-i
 mul-ws-2 c = search rules
 
-slice-write-ws : tie.Need-slice-write-ws
+slice-write-ws : tie.Need-bounds-ws-i
 slice-write-ws c = search rules
 
-mul-ws-3 : tie.Need-overflow-mul-ws-3
+mul-ws-3 : tie.Need-overflow_mul-ws-2
 mul-ws-3 c = search rules
 
-add-ws : tie.Need-overflow-add-ws
+add-ws : tie.Need-overflow_add-ws
 add-ws c = search rules
 
-mul-ws-4 : tie.Need-overflow-mul-ws-4
+mul-ws-4 : tie.Need-offset_bounds-ws-i-2
 mul-ws-4 c = search rules
 
-slice-write-ws-2 : tie.Need-slice-write-ws-2
+slice-write-ws-2 : tie.Need-bounds-ws-i-2
 slice-write-ws-2 c = simp length-set (omega arith)
 
-mul-ws-5 : tie.Need-overflow-mul-ws-5
+mul-ws-5 : tie.Need-overflow_mul-ws-3
 mul-ws-5 c = search rules
 
-add-ws-2 : tie.Need-overflow-add-ws-2
+add-ws-2 : tie.Need-overflow_add-ws-2
 add-ws-2 c = search rules
 
-mul-ws-6 : tie.Need-overflow-mul-ws-6
+mul-ws-6 : tie.Need-offset_bounds-ws-i-3
 mul-ws-6 c = search rules
 
-slice-write-ws-3 : tie.Need-slice-write-ws-3
+slice-write-ws-3 : tie.Need-bounds-ws-i-3
 slice-write-ws-3 c = simp length-set (omega arith)
 
-same_length : tie.Need-same-length
+same_length : tie.Need-shape_of-ws
 same_length c = search rules
 
 returns : tie.Need-returns

@@ -5,26 +5,26 @@ use borrow.Author.Rules.{rules}
 use Rattle.check_takes.proofs.lists.argument_mark.Statement.{statement}
 use Rattle.check_takes.proofs.lists.argument_mark.Tie as tie
 
-took-requires : tie.Need-took-requires
+took-requires : tie.Need-took-opened-requires
 took-requires c κs = search rules
 
-returns : tie.Need-returns
-returns c = mark_last c.before.before.before.before.args.a (took_is 30 (at_true c.if1.true c.before.before.took.ensures))
+returns : tie.Need-returns-then-opened
+returns c = mark_last c.args.a (took_is 30 (at_true c.if-opened.true c.took-opened.ensures))
 
-pop-if-requires : tie.Need-pop-if-requires
-pop-if-requires c κs = held_after c.before.before.took.ensures c.before.before.before.before.requires
+pop-if-requires : tie.Need-pop_if-requires
+pop-if-requires c κs = held_after c.took-opened.ensures c.requires
 
-enum-known-past : tie.Need-enum-known-past
+enum-known-past : tie.Need-enum_known-past
 enum-known-past c = search rules
 
-enum-known-r : tie.Need-enum-known-r
+enum-known-r : tie.Need-enum_known-r
 enum-known-r c = search rules
 
-returns-2 : tie.Need-returns-2
-returns-2 c = mark_more (took_is 30 (at_false c.before.before.before.before.if1.false c.before.before.before.before.before.before.took.ensures)) c.before.before.before.before.before.before.before.before.args.a (popped_top c.before.past.given.1 c.before.before.before.pop_if.ensures)
+returns-2 : tie.Need-returns-in-Top
+returns-2 c = mark_more (took_is 30 (at_false c.if-opened.false c.took-opened.ensures)) c.args.a (popped_top c.in-Top.is c.pop_if.ensures)
 
-returns-3 : tie.Need-returns-3
-returns-3 c = mark_fails (took_is 30 (at_false c.before.before.before.before.if1.false c.before.before.before.before.before.before.took.ensures)) c.before.before.before.before.before.before.before.before.args.a (popped_refused c.before.r.given.1 c.before.before.before.pop_if.ensures)
+returns-3 : tie.Need-returns-in-Refused
+returns-3 c = mark_fails (took_is 30 (at_false c.if-opened.false c.took-opened.ensures)) c.args.a (popped_refused c.in-Refused.is c.pop_if.ensures)
 
 pub argument_mark_spec : {M : Type 1} → statement M
 argument_mark_spec =

@@ -5,29 +5,29 @@ use borrow.Author.Rules.{rules}
 use Rattle.check_takes.proofs.lists.member.Statement.{statement}
 use Rattle.check_takes.proofs.lists.member.Tie as tie
 
-took-requires : tie.Need-took-requires
+took-requires : tie.Need-took-first-requires
 took-requires c κs = search rules
 
 protocol-requires : tie.Need-protocol-requires
-protocol-requires c κs = held_after c.before.took.ensures c.before.before.before.requires.held
+protocol-requires c κs = held_after c.took-first.ensures c.requires.held
 
-enum-known-e : tie.Need-enum-known-e
+enum-known-e : tie.Need-enum_known-e
 enum-known-e c = search rules
 
-add-counted-requires : tie.Need-add-counted-requires
+add-counted-requires : tie.Need-add_counted-requires
 add-counted-requires c κs = search rules
 
 ended-requires : tie.Need-ended-requires
 ended-requires c κs = search rules
 
-enum-known-r : tie.Need-enum-known-r
+enum-known-r : tie.Need-enum_known-r
 enum-known-r c = search rules
 
-returns : tie.Need-returns
-returns c = member_ends (took_is 31 c.before.before.before.before.before.before.before.took.ensures) (popped_top c.before.before.before.e.given.1 c.before.before.before.before.before.protocol.ensures) c.before.before.before.before.before.before.before.before.before.args.a c.before.add_counted.ensures c.ended.ensures
+returns : tie.Need-returns-in-Top
+returns c = member_ends (took_is 31 c.took-first.ensures) (popped_top c.in-Top.is c.protocol.ensures) c.args.a c.add_counted.ensures c.ended.ensures
 
-returns-2 : tie.Need-returns-2
-returns-2 c = member_fails (took_is 31 c.before.before.before.before.before.took.ensures) (popped_refused c.before.r.given.1 c.before.before.before.protocol.ensures) c.before.before.before.before.before.before.before.args.a
+returns-2 : tie.Need-returns-in-Refused
+returns-2 c = member_fails (took_is 31 c.took-first.ensures) (popped_refused c.in-Refused.is c.protocol.ensures) c.args.a
 
 pub member_spec : {M : Type 1} → statement M
 member_spec =

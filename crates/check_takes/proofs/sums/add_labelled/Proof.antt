@@ -6,22 +6,22 @@ use borrow.Author.Rules.{rules}
 use Rattle.check_takes.proofs.sums.add_labelled.Statement.{statement}
 use Rattle.check_takes.proofs.sums.add_labelled.Tie as tie
 
-cast-size : tie.Need-overflow-cast-size
+cast-size : tie.Need-overflow_cast-size
 cast-size c = search rules
 
-add-size : tie.Need-overflow-add-size
+add-size : tie.Need-overflow_add-size
 add-size c = search rules
 
-cast-t6 : tie.Need-overflow-cast-t6
+cast-t6 : tie.Need-overflow_cast-result
 cast-t6 c = search rules
 
-returns : tie.Need-returns
+returns : tie.Need-returns-then-e-eq10
 unfolding C.add_labelled
-returns c = record { same = rw (eq-eqb c.before.before.before.before.before.args.e.kind 10 c.before.if1.true); small = search rules }
+returns c = record { same = rw (eq-eqb c.args.e.kind 10 c.if-e-eq10.true); small = search rules }
 
-returns-2 : tie.Need-returns-2
+returns-2 : tie.Need-returns
 unfolding C.add_labelled
-returns-2 c = record { same = rw (ne_eqb c.before.before.before.before.args.e.kind 10 c.if1.false); small = omega arith }
+returns-2 c = record { same = rw (ne_eqb c.args.e.kind 10 c.if-e-eq10.false); small = omega arith }
 
 pub add_labelled_spec : {M : Type 1} → statement M
 add_labelled_spec = tie.close (tie.spec cast-size add-size cast-t6 returns returns-2)

@@ -3,13 +3,13 @@ use borrow.Author.Rules.{rules}
 use Rattle.check_takes.proofs.sums.sign.Statement.{statement}
 use Rattle.check_takes.proofs.sums.sign.Tie as tie
 
-cast-t3 : tie.Need-overflow-cast-t3
+cast-t3 : tie.Need-overflow_cast-result
 cast-t3 c = search rules
 
-add-t4 : tie.Need-overflow-add-t4
+add-t4 : tie.Need-overflow_add-result
 add-t4 c = search rules
 
-add-t5 : tie.Need-overflow-add-t5
+add-t5 : tie.Need-overflow_add-result-2
 add-t5 c = search rules
 
 returns : tie.Need-returns

@@ -10,17 +10,17 @@ use Rattle.check_takes.proofs.sums.wrapped.Tie as tie
 wrap-requires : tie.Need-wrap-requires
 wrap-requires c κs = search rules
 
-enum-known-left : tie.Need-enum-known-left
+enum-known-left : tie.Need-enum_known-left
 enum-known-left c = search rules
 
-enum-known-r : tie.Need-enum-known-r
+enum-known-r : tie.Need-enum_known-r
 enum-known-r c = search rules
 
-returns : tie.Need-returns
-returns c = λ w. wrapped_left w c.before.before.before.before.before.args.st c.before.left.given.0.0 (subst (Spending (B.wrap (budget_of c.before.before.before.before.before.args.st.budget))) c.before.left.given.1 c.before.before.before.wrap.ensures)
+returns : tie.Need-returns-in-Left
+returns c = λ w. wrapped_left w c.args.st c.in-Left.left (subst (Spending (B.wrap (budget_of c.args.st.budget))) c.in-Left.is c.wrap.ensures)
 
-returns-2 : tie.Need-returns-2
-returns-2 c = λ w. wrapped_refused w c.before.before.before.before.before.args.st c.before.r.given.0.0 (subst (Spending (B.wrap (budget_of c.before.before.before.before.before.args.st.budget))) c.before.r.given.1 c.before.before.before.wrap.ensures)
+returns-2 : tie.Need-returns-in-Refused
+returns-2 c = λ w. wrapped_refused w c.args.st c.in-Refused.r (subst (Spending (B.wrap (budget_of c.args.st.budget))) c.in-Refused.is c.wrap.ensures)
 
 pub wrapped_spec : {M : Type 1} → statement M
 wrapped_spec = tie.close (tie.spec wrap-requires enum-known-left enum-known-r returns returns-2)

@@ -8,56 +8,56 @@ use Rattle.machine.proofs.kinds.is_entity.Reads as is-entity-reads
 use Rattle.machine.proofs.kinds.is_requirement.Reads as is-requirement-reads
 use Rattle.machine.proofs.kinds.is_type.Reads as is-type-reads
 
-enum_told : tie.Need-enum-told
+enum_told : tie.Need-enum_told-1
 enum_told c = search rules
 
-enum-told-2 : tie.Need-enum-told-2
+enum-told-2 : tie.Need-enum_told-in-Type
 enum-told-2 c = search rules
 
-is-type-requires : tie.Need-is-type-requires
+is-type-requires : tie.Need-is_type-requires
 is-type-requires c κs = search rules
 
-enum-told-3 : tie.Need-enum-told-3
+enum-told-3 : tie.Need-enum_told-in-Entity
 enum-told-3 c = search rules
 
-is-entity-requires : tie.Need-is-entity-requires
+is-entity-requires : tie.Need-is_entity-requires
 is-entity-requires c κs = search rules
 
-enum-told-4 : tie.Need-enum-told-4
+enum-told-4 : tie.Need-enum_told-in-Protocol
 enum-told-4 c = search rules
 
-enum-told-5 : tie.Need-enum-told-5
+enum-told-5 : tie.Need-enum_told-in-Requirement
 enum-told-5 c = search rules
 
-is-requirement-requires : tie.Need-is-requirement-requires
+is-requirement-requires : tie.Need-is_requirement-requires
 is-requirement-requires c κs = search rules
 
-enum-told-6 : tie.Need-enum-told-6
+enum-told-6 : tie.Need-enum_told-in-Identifier
 enum-told-6 c = search rules
 
-enum-known-want : tie.Need-enum-known-want
+enum-known-want : tie.Need-enum_known-want
 enum-known-want c = search rules
 
-returns : tie.Need-returns
+returns : tie.Need-returns-in-Anything
 returns c = search rules
 
-returns-2 : tie.Need-returns-2
-returns-2 c = c.is_type.ensures ∙ sym (rw c.before.enum-told2.given.1 refl)
+returns-2 : tie.Need-returns-in-Type
+returns-2 c = c.is_type.ensures ∙ sym (rw c.in-Type.is refl)
 
-returns-3 : tie.Need-returns-3
-returns-3 c = c.is_entity.ensures ∙ sym (rw c.before.enum-told3.given.1 refl)
+returns-3 : tie.Need-returns-in-Entity
+returns-3 c = c.is_entity.ensures ∙ sym (rw c.in-Entity.is refl)
 
-returns-4 : tie.Need-returns-4
-returns-4 c = rw c.enum-told4.given.1
+returns-4 : tie.Need-returns-in-Protocol
+returns-4 c = rw c.in-Protocol.is
 
-returns-5 : tie.Need-returns-5
-returns-5 c = c.is_requirement.ensures ∙ sym (rw c.before.enum-told5.given.1 refl)
+returns-5 : tie.Need-returns-in-Requirement
+returns-5 c = c.is_requirement.ensures ∙ sym (rw c.in-Requirement.is refl)
 
-returns-6 : tie.Need-returns-6
-returns-6 c = rw c.enum-told6.given.1
+returns-6 : tie.Need-returns-in-Identifier
+returns-6 c = rw c.in-Identifier.is
 
-returns-7 : tie.Need-returns-7
-returns-7 c = rw c.before.want.given.1
+returns-7 : tie.Need-returns-in-Kind
+returns-7 c = rw c.in-Kind.is
 
 pub wanted_spec : {M : Type 1} → statement M
 wanted_spec =

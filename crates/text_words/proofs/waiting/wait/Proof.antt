@@ -7,28 +7,28 @@ use Rattle.text_words.proofs.waiting.NotedLater.{more}
 use Rattle.text_words.proofs.waiting.wait.Statement.{statement}
 use Rattle.text_words.proofs.waiting.wait.Tie as tie
 
-cast-more : tie.Need-overflow-cast-more
+cast-more : tie.Need-overflow_cast-more
 cast-more c = search rules
 
-mul-more : tie.Need-overflow-mul-more
+mul-more : tie.Need-offset_bounds-more-count
 mul-more c = search rules
 
-element-write-more : tie.Need-element-write-more
+element-write-more : tie.Need-bounds-more-count
 element-write-more c = search rules
 
-sub_more : tie.Need-overflow-sub-more
+sub_more : tie.Need-overflow_sub-more
 sub_more c = search rules
 
-cast-more-2 : tie.Need-overflow-cast-more-2
+cast-more-2 : tie.Need-overflow_cast-more-2
 cast-more-2 c = search rules
 
-mul-more-2 : tie.Need-overflow-mul-more-2
+mul-more-2 : tie.Need-offset_bounds-more-count-2
 mul-more-2 c = search rules
 
-element-write-more-2 : tie.Need-element-write-more-2
+element-write-more-2 : tie.Need-bounds-more-count-2
 element-write-more-2 c = search rules
 
-add-more : tie.Need-overflow-add-more
+add-more : tie.Need-overflow_add-more
 add-more c = search rules
 
 returns : tie.Need-returns

@@ -9,18 +9,18 @@ use Rattle.machine.proofs.budget.Budget.step.Reads as reads
 use Rattle.machine.proofs.budget.Budget.step.Lts as lts
 
 -- src/lib.rt:45:24
-add-t4 : tie.Need-overflow-add-t4
+add-t4 : tie.Need-overflow_add-result
 add-t4 c = search rules
 
 -- src/lib.rt:44:13
-returns : tie.Need-returns
+returns : tie.Need-returns-then-steps-lt-MOST_STEPS
 unfolding Definition.step number
-returns c = simp (lt-ltb _ _ c.if1.true, add-one)
+returns c = simp (lt-ltb _ _ c.if-steps-lt-MOST_STEPS.true, add-one)
 
 -- src/lib.rt:39:5
-returns-2 : tie.Need-returns-2
+returns-2 : tie.Need-returns
 unfolding Definition.step number
-returns-2 c = simp (le-ltb _ _ c.if1.false)
+returns-2 c = simp (le-ltb _ _ c.if-steps-lt-MOST_STEPS.false)
 
 pub step_spec : {M : Type 1} → statement M
 step_spec = tie.close (tie.spec add-t4 returns returns-2)

@@ -9,18 +9,18 @@ use Rattle.machine.proofs.budget.Budget.wrap.Reads as reads
 use Rattle.machine.proofs.budget.Budget.wrap.Lts as lts
 
 -- src/lib.rt:90:24
-add-t4 : tie.Need-overflow-add-t4
+add-t4 : tie.Need-overflow_add-result
 add-t4 c = search rules
 
 -- src/lib.rt:87:13
-returns : tie.Need-returns
+returns : tie.Need-returns-then-wraps-lt-MOST_WRAPS
 unfolding Definition.wrap number
-returns c = simp (lt-ltb _ _ c.if1.true, add-one)
+returns c = simp (lt-ltb _ _ c.if-wraps-lt-MOST_WRAPS.true, add-one)
 
 -- src/lib.rt:82:5
-returns-2 : tie.Need-returns-2
+returns-2 : tie.Need-returns
 unfolding Definition.wrap number
-returns-2 c = simp (le-ltb _ _ c.if1.false)
+returns-2 c = simp (le-ltb _ _ c.if-wraps-lt-MOST_WRAPS.false)
 
 pub wrap_spec : {M : Type 1} → statement M
 wrap_spec = tie.close (tie.spec add-t4 returns returns-2)
