@@ -169,7 +169,7 @@ def turn(text, aliases, said):
     for names in aliases.values():
         names.helpers = helpers
     # Goals by their position in tie.spec.
-    goal_of, dropped = {}, set()
+    goal_of, dropped, matched, refill = {}, set(), {}, False
     if "tie" in aliases:
         names = aliases["tie"]
         m = re.search(r"\(tie\.spec\s+(.*)\)\s*\Z", text, re.S)
@@ -177,6 +177,7 @@ def turn(text, aliases, said):
             given = terms(m.group(1))
             if len(given) != 2 * len(names.loops) + len(names.needs):
                 said.append(f"tie.spec has {len(given)} arguments, today's {2 * len(names.loops)} + {len(names.needs)}")
+                refill = True
             else:
                 tail = given[2 * len(names.loops):]
                 goal_of = {decl: at for at, decl in enumerate(tail)}
@@ -208,6 +209,7 @@ def turn(text, aliases, said):
                 said.append(f"{decl}: no goal {need.group(2)}: dropped")
                 dropped.add(decl)
                 continue
+            matched[at] = decl
             part = part.replace(f"{module}.Need-{need.group(2)}", f"{module}.Need-{names.needs[at][1]}", 1)
             before = len(re.findall(r"\(\w+ : [^()]*\) →", part[head.end():].split(module + ".Need")[0]))
             args = re.search(r"(?m)^" + re.escape(decl) + r"((?: [^\s=]+)*) =", part)
@@ -225,6 +227,14 @@ def turn(text, aliases, said):
             part = rename_paths(part, own, env, said)
         out.append(part)
     whole = "".join(out)
+    if refill:
+        # Goals that no declaration answers are left to the search.
+        names = aliases["tie"]
+        free = lambda new: "(λ c κs. search rules)" if new.split("-clause-")[0].rstrip("0123456789-").endswith("requires") else "(λ c. search rules)"
+        args = given[:2 * len(names.loops)] + [matched.get(at) or free(new) for at, (_, new) in enumerate(names.needs)]
+        whole = re.sub(r"\(tie\.spec\s+(.*)\)\s*\Z", lambda m: "(tie.spec\n    " + "\n    ".join(args) + ")\n", whole, flags=re.S)
+        if "search rules" in whole and "Author.Rules.{rules}" not in whole:
+            whole = whole.replace("use Rattle.", "use borrow.Author.Rules.{rules}\nuse Rattle.", 1)
     for decl in dropped:
         whole = re.sub(r"(?m)^ +" + re.escape(decl) + r"\n", "", whole)
     return whole

@@ -1,6 +1,7 @@
 // The checks 1 to 5 of document 01, which are made before a run. They also give the part of the
 // text that is read.
 #![tactic(auto)]
+
 ghost use Rattle.std.specs.Prelude.{◌≡◌, true, ◌≤◌};
 ghost use Rattle.definition.specs.Text as Text;
 ghost use Rattle.call_admission.specs.Admits.{framed, Frames, Admits};

@@ -1,6 +1,7 @@
 // The result at the end of any run: its counts, or refusal 12 if a text or a stack exceeds the
 // output slice.
 #![tactic(auto)]
+
 ghost use Rattle.std.specs.Prelude.{◌≡◌};
 ghost use Rattle.machine.specs.Spent.{budget_of};
 ghost use Rattle.call_endings.specs.Answers.{Measured, Stacked};

@@ -4,6 +4,7 @@
 // assumed of the system that a read stores the input's next bytes in the slice, and that a write
 // writes the slice.
 #![tactic(auto)]
+
 ghost use Rattle.std.specs.Prelude.{◌≡◌, ◌≤◌, ◌<◌, ◌^◌, length};
 ghost use Rattle.text_parts.specs.Copied.{copied};
 ghost use Rattle.line_forms.specs.Lines.{Clear};

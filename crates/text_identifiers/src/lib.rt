@@ -1,5 +1,6 @@
 // Identifiers, with the words as a table or as a count. The whole text is well-formed.
 #![tactic(auto)]
+
 ghost use Rattle.std.specs.Prelude.{◌≡◌, true, false, ℕ, ◌+◌, ◌-◌, ◌≤◌, ◌<◌, length, drop};
 ghost use Rattle.definition.specs.Text as Text;
 ghost use Rattle.definition.specs.Words as W;

@@ -1,6 +1,7 @@
 // What operators take from the stack and push on it, on records; and the operators that put one
 // node over the top.
 #![tactic(auto)]
+
 ghost use Rattle.std.specs.Prelude.{◌≡◌, List, [], ◌∷◌, ℕ, ◌+◌, ◌*◌, ◌≤◌, ◌<◌, eqb, length};
 ghost use Rattle.definition.specs.Base.{bytes, if◌then◌else◌};
 ghost use Rattle.definition.specs.Enums as Enums;

@@ -1,6 +1,7 @@
 // Trees as records in a lent workspace of 32-bit numbers: 8 numbers for each record, children given
 // by place.
 #![tactic(auto)]
+
 ghost use Rattle.std.specs.Prelude.{◌≡◌, List, [], ◌∷◌, ◌+◌, ◌*◌, ◌^◌, ◌≤◌, ◌<◌, length};
 ghost use Rattle.tree_records.specs.Lies.{at};
 ghost use Rattle.tree_records.specs.Made.{Wrote};

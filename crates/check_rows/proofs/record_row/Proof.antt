@@ -5,14 +5,16 @@ use borrow.Author.Rules.{rules}
 use Rattle.check_rows.proofs.record_row.Statement.{statement}
 use Rattle.check_rows.proofs.record_row.Tie as tie
 
-about-index-requires : tie.Need-about-index-requires
+about-index-requires : tie.Need-about_index-requires
 about-index-requires c κs = search rules
 
-add-result : tie.Need-overflow-add-result
-add-result c = omega (arith, c.about_index.ensures, about_small c.before.args.a)
+add-result : tie.Need-overflow_add-result
+add-result c = omega (arith, c.about_index.ensures, about_small c.args.a)
 
 returns : tie.Need-returns
 returns c = search rules
 
 pub record_row_spec : {M : Type 1} → statement M
-record_row_spec = tie.close (tie.spec about-index-requires add-result returns)
+record_row_spec = tie.close (tie.spec about-index-requires
+    add-result
+    returns)

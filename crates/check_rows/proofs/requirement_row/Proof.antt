@@ -5,20 +5,20 @@ use borrow.Author.Rules.{rules}
 use Rattle.check_rows.proofs.requirement_row.Statement.{statement}
 use Rattle.check_rows.proofs.requirement_row.Tie as tie
 
-subject-index-requires : tie.Need-subject-index-requires
+subject-index-requires : tie.Need-subject_index-requires
 subject-index-requires c κs = search rules
 
-mul-result : tie.Need-overflow-mul-result
-mul-result c = omega (arith, c.subject_index.ensures, subject_small c.before.args.s)
+mul-result : tie.Need-overflow_mul-result
+mul-result c = omega (arith, c.subject_index.ensures, subject_small c.args.s)
 
-add-result : tie.Need-overflow-add-result
-add-result c = omega (arith, c.subject_index.ensures, subject_small c.before.args.s)
+add-result : tie.Need-overflow_add-result
+add-result c = omega (arith, c.subject_index.ensures, subject_small c.args.s)
 
-constraint-index-requires : tie.Need-constraint-index-requires
+constraint-index-requires : tie.Need-constraint_index-requires
 constraint-index-requires c κs = search rules
 
-add-result-2 : tie.Need-overflow-add-result-2
-add-result-2 c = omega (arith, c.before.subject_index.ensures, c.constraint_index.ensures, subject_small c.before.before.args.s, constraint_small c.before.before.args.c)
+add-result-2 : tie.Need-overflow_add-result-2
+add-result-2 c = omega (arith, c.subject_index.ensures, c.constraint_index.ensures, subject_small c.args.s, constraint_small c.args.c)
 
 returns : tie.Need-returns
 returns c = search rules

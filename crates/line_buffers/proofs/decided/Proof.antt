@@ -16,11 +16,12 @@ written : (wrote : Bool) (next : Next) → not wrote ≡ false → next ≡ afte
 written true next e = refl
 written false next e = let z : ◌≡◌ {A = ℕ} 0 1 = cc in absurd (omega arith)
 
-returns : tie.Need-returns
-returns c = failed c.before.args.wrote c.before.args.next c.if1.true
+returns : tie.Need-returns-then-not-wrote
+returns c = failed c.args.wrote c.args.next c.if-not-wrote.true-raw
 
-returns-2 : tie.Need-returns-2
-returns-2 c = written c.before.args.wrote c.before.args.next c.if1.false
+returns-2 : tie.Need-returns
+returns-2 c = written c.args.wrote c.args.next c.if-not-wrote.false-raw
 
 pub decided_spec : {M : Type 1} → statement M
-decided_spec = tie.close (tie.spec returns returns-2)
+decided_spec = tie.close (tie.spec returns
+    returns-2)

@@ -36,17 +36,20 @@ at_end (pos zero) e f = refl
 at_end (pos (suc n)) e f = let h = ltb-false 0 (suc n) e in absurd (omega arith)
 at_end (negsuc n) e f = let z : ◌≡◌ {A = ℕ} 0 1 = cc in absurd (omega arith)
 
-cast-t3 : tie.Need-overflow-cast-t3
-cast-t3 c = (positive (to_z w64 (of_z w64 c.before.args.got)) c.if1.true, Fits-nat_abs {w = w64} {w' = w64} tt (sfits_to_z (Fits-of_z c.before.ranges.got)))
+cast-t3 : tie.Need-overflow_cast-result
+cast-t3 c = (positive (to_z w64 (of_z w64 c.args.got)) c.if-got-gt0.true, Fits-nat_abs {w = w64} {w' = w64} tt (sfits_to_z (Fits-of_z c.ranges.got)))
 
-returns : tie.Need-returns
-returns c = above (to_z w64 (of_z w64 c.before.args.got)) c.if1.true ∙ ap heard_of (to_z-of_z c.before.ranges.got)
+returns : tie.Need-returns-then-got-gt0
+returns c = above (to_z w64 (of_z w64 c.args.got)) c.if-got-gt0.true ∙ ap heard_of (to_z-of_z c.ranges.got)
 
-returns-2 : tie.Need-returns-2
-returns-2 c = below (to_z w64 (of_z w64 c.before.before.args.got)) c.if2.true ∙ ap heard_of (to_z-of_z c.before.before.ranges.got)
+returns-2 : tie.Need-returns-then-got-lt0
+returns-2 c = below (to_z w64 (of_z w64 c.args.got)) c.if-got-lt0.true ∙ ap heard_of (to_z-of_z c.ranges.got)
 
-returns-3 : tie.Need-returns-3
-returns-3 c = at_end (to_z w64 (of_z w64 c.before.before.args.got)) c.before.if1.false c.if2.false ∙ ap heard_of (to_z-of_z c.before.before.ranges.got)
+returns-3 : tie.Need-returns
+returns-3 c = at_end (to_z w64 (of_z w64 c.args.got)) c.if-got-gt0.false c.if-got-lt0.false ∙ ap heard_of (to_z-of_z c.ranges.got)
 
 pub heard_spec : {M : Type 1} → statement M
-heard_spec = tie.close (tie.spec cast-t3 returns returns-2 returns-3)
+heard_spec = tie.close (tie.spec cast-t3
+    returns
+    returns-2
+    returns-3)

@@ -8,20 +8,23 @@ use Rattle.print_numerals.proofs.put_decimal.Reads as put-decimal-reads
 use Rattle.text_output.proofs.put_byte.Reads as put-byte-reads
 
 -- src/lib.rt:20:9
-put-byte-requires : tie.Need-put-byte-requires
+put-byte-requires : tie.Need-put_byte-r-requires
 put-byte-requires c κs = search rules
 
 -- src/lib.rt:21:5
-put-decimal-requires : tie.Need-put-decimal-requires
+put-decimal-requires : tie.Need-put_decimal-requires
 put-decimal-requires c κs = search rules
 
 -- src/lib.rt:16:1
-same_length : tie.Need-same-length
+same_length : tie.Need-shape_of-out
 same_length c = search rules
 
 -- src/lib.rt:16:1
 returns : tie.Need-returns
-returns c = field_wrote _ c.before.before.before.before.before.before.put_byte.ensures c.before.before.put-decimal.ensures
+returns c = field_wrote _ c.put_byte-r.ensures c.put_decimal.ensures
 
 pub put_field_spec : {M : Type 1} → statement M
-put_field_spec = tie.close (tie.spec put-byte-requires put-decimal-requires same_length returns)
+put_field_spec = tie.close (tie.spec put-byte-requires
+    put-decimal-requires
+    same_length
+    returns)

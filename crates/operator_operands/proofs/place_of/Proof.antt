@@ -9,40 +9,40 @@ use Rattle.operator_operands.proofs.Places.{place_here, place_next, place_end}
 use Rattle.operator_operands.proofs.place_of.Statement.{statement}
 use Rattle.operator_operands.proofs.place_of.Tie as tie
 
-abbrev invariant-loop : tie.invariant-loop
+abbrev invariant-loop : tie.invariant-loop-i
 invariant-loop letters b i₀ i = (i ≤ length letters) × (place b letters ≡ i + place b (drop i letters))
 
-abbrev decreases-loop : tie.decreases-loop
+abbrev decreases-loop : tie.decreases-loop-i
 decreases-loop letters b i₀ i = length letters - i
 
-loop-holds : tie.Need-loop-init invariant-loop decreases-loop
+loop-holds : tie.Need-loop-i-init invariant-loop decreases-loop
 loop-holds c = (omega arith, omega arith)
 
-shared-slice-read-if1 : tie.Need-shared-slice-read-if1 invariant-loop decreases-loop
+shared-slice-read-if1 : tie.Need-bounds-letters-i invariant-loop decreases-loop
 shared-slice-read-if1 c = omega arith
 
-returns : tie.Need-returns invariant-loop decreases-loop
+returns : tie.Need-returns-then-letters-i invariant-loop decreases-loop
 returns c =
-    let e = c.before.before.before.loop.invariant.1 in
-    let z = place_here c.before.before.before.before.args.b c.before.before.before.before.args.letters.now c.before.before.before.loop.i c.before.before.loop-test.true c.if1.true in
+    let e = c.loop-i.invariant.1 in
+    let z = place_here c.args.b c.args.letters.now c.loop-i.i c.loop-i-test.true c.if-letters-i.true in
     omega arith
 
-add-i : tie.Need-overflow-add-i invariant-loop decreases-loop
+add-i : tie.Need-overflow_add-i invariant-loop decreases-loop
 add-i c = omega arith
 
-loop-less : tie.Need-loop-smaller invariant-loop decreases-loop
+loop-less : tie.Need-loop-i-smaller invariant-loop decreases-loop
 loop-less c = omega arith
 
-loop-again : tie.Need-loop-preserved invariant-loop decreases-loop
+loop-again : tie.Need-loop-i-preserved invariant-loop decreases-loop
 loop-again c =
-    let e = c.before.before.before.loop.invariant.1 in
-    let z = place_next c.before.before.before.before.args.b c.before.before.before.before.args.letters.now c.before.before.before.loop.i c.before.before.loop-test.true c.if1.false in
+    let e = c.loop-i.invariant.1 in
+    let z = place_next c.args.b c.args.letters.now c.loop-i.i c.loop-i-test.true c.if-letters-i.false in
     (omega arith, omega arith)
 
-returns-2 : tie.Need-returns-2 invariant-loop decreases-loop
+returns-2 : tie.Need-returns invariant-loop decreases-loop
 returns-2 c =
-    let e = c.before.loop.invariant.1 in
-    let z = place_end c.before.before.args.b c.before.before.args.letters.now c.before.loop.i c.loop-test.false in
+    let e = c.loop-i.invariant.1 in
+    let z = place_end c.args.b c.args.letters.now c.loop-i.i c.loop-i-test.false in
     omega arith
 
 pub place_of_spec : {M : Type 1} → statement M

@@ -14,59 +14,59 @@ use Rattle.definition.specs.Check.{count_words_from}
 use Rattle.text_identifiers.proofs.count_rounds.Statement.{statement}
 use Rattle.text_identifiers.proofs.count_rounds.Tie as tie
 
-abbrev invariant-loop : tie.invariant-loop
+abbrev invariant-loop : tie.invariant-loop-e
 invariant-loop text count subs punycoded at₀ known₀ more₀ empty₀ at known more empty = Running (λ (n : ℕ). n) (count_words_from 0 0) punycoded text known₀ subs at₀ at known more empty
 
-abbrev decreases-loop : tie.decreases-loop
+abbrev decreases-loop : tie.decreases-loop-e
 decreases-loop text count subs punycoded at₀ known₀ more₀ empty₀ at known more empty = length text - at
 
-closed : (c : tie.After-e invariant-loop decreases-loop) → Reaches (round c.before.before.before.loop.known c.before.before.before.loop.more c.before.before.before.before.before.args.punycoded c.before.before.before.loop.empty (drop c.before.before.before.loop.at c.before.before.before.before.before.args.text.now)) (closes c.e.given.0.0) c.before.before.before.before.before.args.text.now (c.before.before.before.loop.at + 1) c.e.given.0.1.0
-closed c = piece_closed c.before.before.before.before.before.args.text.now c.before.before.before.loop.at c.e.given.1 c.before.before.round-of.ensures
+closed : (c : tie.In-Closed invariant-loop decreases-loop) → Reaches (round c.loop-e.known c.loop-e.more c.args.punycoded c.loop-e.empty (drop c.loop-e.at c.args.text.now)) (closes c.in-Closed.e) c.args.text.now (c.loop-e.at + 1) c.in-Closed.next
+closed c = piece_closed c.args.text.now c.loop-e.at c.in-Closed.is c.round_of.ensures
 
-lies : (c : tie.After-m invariant-loop decreases-loop) → Lies (round c.before.before.before.loop.known c.before.before.before.loop.more c.before.before.before.before.before.args.punycoded c.before.before.before.loop.empty (drop c.before.before.before.loop.at c.before.before.before.before.before.args.text.now)) (takes c.m.given.0.0 c.m.given.0.1.0) c.before.before.before.before.before.args.text.now c.before.before.before.loop.at c.m.given.0.1.1.0 c.m.given.0.1.1.1.0
-lies c = piece_literal c.before.before.before.before.before.args.text.now c.before.before.before.loop.at c.m.given.1 c.before.before.round-of.ensures
+lies : (c : tie.In-Literal invariant-loop decreases-loop) → Lies (round c.loop-e.known c.loop-e.more c.args.punycoded c.loop-e.empty (drop c.loop-e.at c.args.text.now)) (takes c.in-Literal.field-0 c.in-Literal.m) c.args.text.now c.loop-e.at c.in-Literal.from c.in-Literal.to
+lies c = piece_literal c.args.text.now c.loop-e.at c.in-Literal.is c.round_of.ensures
 
-loop-holds : tie.Need-loop-init invariant-loop decreases-loop
+loop-holds : tie.Need-loop-e-init invariant-loop decreases-loop
 loop-holds c =
-    let a = c.before.args in
-    running_first (λ (n : ℕ). n) (count_words_from 0 0) a.punycoded a.text.now a.count a.subs a.c.at c.before.requires.0
+    let a = c.args in
+    running_first (λ (n : ℕ). n) (count_words_from 0 0) a.punycoded a.text.now a.count a.subs a.c.at c.requires.0
 
-round-of-requires : tie.Need-round-of-requires invariant-loop decreases-loop
-round-of-requires c κs = (c.loop.invariant.inside, c.before.before.requires.2)
+round-of-requires : tie.Need-round_of-requires invariant-loop decreases-loop
+round-of-requires c κs = (c.loop-e.invariant.inside, c.requires.2)
 
-enum-known-e : tie.Need-enum-known-e invariant-loop decreases-loop
+enum-known-e : tie.Need-enum_known-e invariant-loop decreases-loop
 enum-known-e c = search rules
 
-returns : tie.Need-returns invariant-loop decreases-loop
+returns : tie.Need-returns-then-e invariant-loop decreases-loop
 unfolding number
-returns c = λ f h. running_empty (λ (n : ℕ). n) (count_words_from 0 0) c.before.before.before.before.before.before.before.args.punycoded c.before.before.before.before.before.before.before.args.text.now c.before.before.before.before.before.loop.invariant refl f h c.if1.true (closed c.before.before)
+returns c = λ f h. running_empty (λ (n : ℕ). n) (count_words_from 0 0) c.args.punycoded c.args.text.now c.loop-e.invariant refl f h c.if-e.true (closed c.before)
 
-returns-2 : tie.Need-returns-2 invariant-loop decreases-loop
-returns-2 c = λ f h. running_closed (λ (n : ℕ). n) (count_words_from 0 0) c.before.before.before.before.before.before.before.args.punycoded c.before.before.before.before.before.before.before.args.text.now c.before.before.before.before.before.loop.invariant refl f h c.if1.false (closed c.before.before)
+returns-2 : tie.Need-returns-in-Closed invariant-loop decreases-loop
+returns-2 c = λ f h. running_closed (λ (n : ℕ). n) (count_words_from 0 0) c.args.punycoded c.args.text.now c.loop-e.invariant refl f h c.if-e.false (closed c.before)
 
-enum-known-m : tie.Need-enum-known-m invariant-loop decreases-loop
+enum-known-m : tie.Need-enum_known-m invariant-loop decreases-loop
 enum-known-m c = search rules
 
-noted-count-requires : tie.Need-noted-count-requires invariant-loop decreases-loop
-noted-count-requires c κs = (omega (arith, (lies c.before).some), ((lies c.before).inside, c.before.before.before.before.before.before.requires.1))
+noted-count-requires : tie.Need-noted_count-known-requires invariant-loop decreases-loop
+noted-count-requires c κs = (omega (arith, (lies c).some), ((lies c).inside, c.requires.1))
 
-returns-3 : tie.Need-returns-3 invariant-loop decreases-loop
-returns-3 c = λ f h. running_last (λ (n : ℕ). n) (count_words_from 0 0) c.before.before.before.before.before.before.before.before.args.punycoded c.before.before.before.before.before.before.before.before.args.text.now c.before.before.before.before.before.before.loop.invariant refl f h (not-true _ c.if2.true) (lies c.before.before.before) c.before.noted-count.ensures
+returns-3 : tie.Need-returns-then-not-m invariant-loop decreases-loop
+returns-3 c = λ f h. running_last (λ (n : ℕ). n) (count_words_from 0 0) c.args.punycoded c.args.text.now c.loop-e.invariant refl f h (not-true _ c.if-not-m.true-raw) (lies c.before.before) c.noted_count-known.ensures
 
-loop-less : tie.Need-loop-smaller invariant-loop decreases-loop
-loop-less c = omega (arith, (lies c.before.before.before).onward, (lies c.before.before.before).some, (lies c.before.before.before).inside, c.before.before.before.before.before.before.loop.invariant.inside)
+loop-less : tie.Need-loop-e-smaller invariant-loop decreases-loop
+loop-less c = omega (arith, (lies c.before.before).onward, (lies c.before.before).some, (lies c.before.before).inside, c.loop-e.invariant.inside)
 
-loop-again : tie.Need-loop-preserved invariant-loop decreases-loop
-loop-again c = running_next (λ (n : ℕ). n) (count_words_from 0 0) c.before.before.before.before.before.before.before.before.args.punycoded c.before.before.before.before.before.before.before.before.args.text.now c.before.before.before.before.before.before.loop.invariant refl (not-false _ c.if2.false) (lies c.before.before.before) c.before.noted-count.ensures
+loop-again : tie.Need-loop-e-preserved invariant-loop decreases-loop
+loop-again c = running_next (λ (n : ℕ). n) (count_words_from 0 0) c.args.punycoded c.args.text.now c.loop-e.invariant refl (not-false _ c.if-not-m.false-raw) (lies c.before.before) c.noted_count-known.ensures
 
-enum-known-f : tie.Need-enum-known-f invariant-loop decreases-loop
+enum-known-f : tie.Need-enum_known-f invariant-loop decreases-loop
 enum-known-f c = search rules
 
-returns-4 : tie.Need-returns-4 invariant-loop decreases-loop
+returns-4 : tie.Need-returns-in-Refused invariant-loop decreases-loop
 returns-4 c =
-    let x = c.before.before.before.before.before.before.args.text.now in
-    let l = c.before.before.before.before.loop in
-    λ f h. running_refused (λ (n : ℕ). n) (count_words_from 0 0) c.before.before.before.before.before.before.args.punycoded x l.invariant refl f h (piece_refused x l.at c.before.f.given.1 c.before.before.before.round-of.ensures)
+    let x = c.args.text.now in
+    let l = c.loop-e in
+    λ f h. running_refused (λ (n : ℕ). n) (count_words_from 0 0) c.args.punycoded x l.invariant refl f h (piece_refused x l.at c.in-Refused.is c.round_of.ensures)
 
 pub count_rounds_spec : {M : Type 1} → statement M
 count_rounds_spec =

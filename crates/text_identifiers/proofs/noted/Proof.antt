@@ -9,20 +9,22 @@ use borrow.Author.Rules.{rules}
 use Rattle.text_identifiers.proofs.noted.Statement.{statement}
 use Rattle.text_identifiers.proofs.noted.Tie as tie
 
-returns : tie.Need-returns
+returns : tie.Need-returns-then-punycoded
 returns c =
-    let x = c.before.before.args.text.now in
-    let a = c.before.before.args in
-    subst (λ (p : Bool). Holds x (known_after note_words p (part x a.from a.to) (table x a.w)) a.w a.w) (sym c.if1.true) (record { is = refl; fitting = c.before.before.requires.1.1.1; more = omega arith })
+    let x = c.args.text.now in
+    let a = c.args in
+    subst (λ (p : Bool). Holds x (known_after note_words p (part x a.from a.to) (table x a.w)) a.w a.w) (sym c.if-punycoded.true) (record { is = refl; fitting = c.requires.1.1.1; more = omega arith })
 
-note-words-requires : tie.Need-note-words-requires
+note-words-requires : tie.Need-note_words-requires
 note-words-requires c κs = search rules
 
-returns-2 : tie.Need-returns-2
+returns-2 : tie.Need-returns
 returns-2 c =
-    let x = c.before.before.before.args.text.now in
-    let a = c.before.before.before.args in
-    subst (λ (p : Bool). Holds x (known_after note_words p (part x a.from a.to) (table x a.w)) a.w c.note_words.result) (sym c.before.if1.false) c.note_words.ensures
+    let x = c.args.text.now in
+    let a = c.args in
+    subst (λ (p : Bool). Holds x (known_after note_words p (part x a.from a.to) (table x a.w)) a.w c.note_words.result) (sym c.if-punycoded.false) c.note_words.ensures
 
 pub noted_spec : {M : Type 1} → statement M
-noted_spec = tie.close (tie.spec returns note-words-requires returns-2)
+noted_spec = tie.close (tie.spec returns
+    note-words-requires
+    returns-2)

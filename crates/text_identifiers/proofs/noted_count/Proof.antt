@@ -8,18 +8,20 @@ use borrow.Author.Rules.{rules}
 use Rattle.text_identifiers.proofs.noted_count.Statement.{statement}
 use Rattle.text_identifiers.proofs.noted_count.Tie as tie
 
-returns : tie.Need-returns
+returns : tie.Need-returns-then-punycoded
 returns c =
-    let a = c.before.before.args in
-    ap (λ (p : Bool). known_after (count_words_from 0 0) p (part a.text.now a.from a.to) a.count) (sym c.if1.true)
+    let a = c.args in
+    ap (λ (p : Bool). known_after (count_words_from 0 0) p (part a.text.now a.from a.to) a.count) (sym c.if-punycoded.true)
 
-count-words-requires : tie.Need-count-words-requires
+count-words-requires : tie.Need-count_words-requires
 count-words-requires c κs = search rules
 
-returns-2 : tie.Need-returns-2
+returns-2 : tie.Need-returns
 returns-2 c =
-    let a = c.before.before.before.args in
-    c.count-words.ensures.0 ∙ ap (λ (p : Bool). known_after (count_words_from 0 0) p (part a.text.now a.from a.to) a.count) (sym c.before.if1.false)
+    let a = c.args in
+    c.count_words.ensures.0 ∙ ap (λ (p : Bool). known_after (count_words_from 0 0) p (part a.text.now a.from a.to) a.count) (sym c.if-punycoded.false)
 
 pub noted_count_spec : {M : Type 1} → statement M
-noted_count_spec = tie.close (tie.spec returns count-words-requires returns-2)
+noted_count_spec = tie.close (tie.spec returns
+    count-words-requires
+    returns-2)

@@ -15,29 +15,34 @@ use Rattle.text_identifiers.proofs.plain_count.Tie as tie
 literal-requires : tie.Need-literal-requires
 literal-requires c κs = search rules
 
-enum-known-from : tie.Need-enum-known-from
+enum-known-from : tie.Need-enum_known-from
 enum-known-from c = search rules
 
-lies : (c : tie.After-from) → Lies (literal false (drop c.before.before.before.before.args.c.at c.before.before.before.before.args.text.now)) (λ s. s) c.before.before.before.before.args.text.now c.before.before.before.before.args.c.at c.from.given.0.0 c.from.given.0.1.0
-lies c = extent_read c.before.before.before.before.args.text.now c.before.before.before.before.args.c.at c.from.given.1 c.before.before.literal.ensures
+lies : (c : tie.In-Read) → Lies (literal false (drop c.args.c.at c.args.text.now)) (λ s. s) c.args.text.now c.args.c.at c.in-Read.from c.in-Read.to
+lies c = extent_read c.args.text.now c.args.c.at c.in-Read.is c.literal.ensures
 
-count-words-requires : tie.Need-count-words-requires
-count-words-requires c κs = (omega (arith, (lies c.before).some), ((lies c.before).inside, c.before.before.before.before.before.requires.1))
+count-words-requires : tie.Need-count_words-requires
+count-words-requires c κs = (omega (arith, (lies c).some), ((lies c).inside, c.requires.1))
 
-enum-known-f : tie.Need-enum-known-f
+enum-known-f : tie.Need-enum_known-f
 enum-known-f c = search rules
 
-returns : tie.Need-returns
+returns : tie.Need-returns-in-Read
 returns c =
-    let a = c.before.before.before.before.before.before.args in
-    λ f h. plain_read (λ (n : ℕ). n) (count_words_from 0 0) a.text.now a.count a.c.at c.before.before.before.before.before.before.requires.0 c.before.before.before.before.before.before.requires.2 f h (lies c.before.before) c.count-words.ensures.0
+    let a = c.args in
+    λ f h. plain_read (λ (n : ℕ). n) (count_words_from 0 0) a.text.now a.count a.c.at c.requires.0 c.requires.2 f h (lies c.before) c.count_words.ensures.0
 
-returns-2 : tie.Need-returns-2
+returns-2 : tie.Need-returns-in-Refused
 returns-2 c =
-    let a = c.before.before.before.before.before.args in
-    λ f h. plain_refused (λ (n : ℕ). n) (count_words_from 0 0) a.text.now a.count a.c.at c.before.before.before.before.before.requires.0 c.before.before.before.before.before.requires.2 f h (extent_refused a.text.now a.c.at c.before.f.given.1 c.before.before.before.literal.ensures)
+    let a = c.args in
+    λ f h. plain_refused (λ (n : ℕ). n) (count_words_from 0 0) a.text.now a.count a.c.at c.requires.0 c.requires.2 f h (extent_refused a.text.now a.c.at c.in-Refused.is c.literal.ensures)
 
 pub plain_count_spec : {M : Type 1} → statement M
 plain_count_spec =
     tie.close
-    (tie.spec literal-requires enum-known-from count-words-requires enum-known-f returns returns-2)
+    (tie.spec literal-requires
+    enum-known-from
+    count-words-requires
+    enum-known-f
+    returns
+    returns-2)

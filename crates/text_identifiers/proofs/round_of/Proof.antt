@@ -11,40 +11,40 @@ use borrow.Author.Rules.{rules}
 use Rattle.text_identifiers.proofs.round_of.Statement.{statement}
 use Rattle.text_identifiers.proofs.round_of.Tie as tie
 
-close-or-take-requires : tie.Need-close-or-take-requires
+close-or-take-requires : tie.Need-close_or_take-requires
 close-or-take-requires c κs = search rules
 
-returns : tie.Need-returns
+returns : tie.Need-returns-then-not-subs
 returns c =
-    let x = c.before.before.before.args.text.now in
-    let a = c.before.before.before.args in
-    pieced_is x (ap (λ (s : Bool). round a.known s a.punycoded a.empty (drop a.c.at x)) (not-true a.subs c.before.if1.true)) (le_refl a.c.at) c.close-or-take.result c.close-or-take.ensures
+    let x = c.args.text.now in
+    let a = c.args in
+    pieced_is x (ap (λ (s : Bool). round a.known s a.punycoded a.empty (drop a.c.at x)) (not-true a.subs c.if-not-subs.true-raw)) (le_refl a.c.at) c.close_or_take.result c.close_or_take.ensures
 
-word-letters-requires : tie.Need-word-letters-requires
+word-letters-requires : tie.Need-word_letters-requires
 word-letters-requires c κs = search rules
 
-enum-known-e : tie.Need-enum-known-e
+enum-known-e : tie.Need-enum_known-e
 enum-known-e c = search rules
 
-close-or-take-requires-2 : tie.Need-close-or-take-requires-2
-close-or-take-requires-2 c κs = ((letters_read c.before.before.before.before.before.before.args.text.now c.before.before.before.before.before.before.args.c.at c.before.e.given.1 c.before.before.before.word_letters.ensures).inside, c.before.before.before.before.before.before.requires.1)
+close-or-take-requires-2 : tie.Need-close_or_take-requires-in-Read
+close-or-take-requires-2 c κs = ((letters_read c.args.text.now c.args.c.at c.in-Read.is c.word_letters.ensures).inside, c.requires.1)
 
-enum-known-f : tie.Need-enum-known-f
+enum-known-f : tie.Need-enum_known-f
 enum-known-f c = search rules
 
-returns-2 : tie.Need-returns-2
+returns-2 : tie.Need-returns-in-Read
 returns-2 c =
-    let x = c.before.before.before.before.before.before.before.args.text.now in
-    let a = c.before.before.before.before.before.before.before.args in
-    let g = letters_read x a.c.at c.before.before.e.given.1 c.before.before.before.before.word_letters.ensures in
-    pieced_is x (ap (λ (s : Bool). round a.known s a.punycoded a.empty (drop a.c.at x)) (not-false a.subs c.before.before.before.before.before.if1.false) ∙ then_ok _ g.is) g.onward c.close-or-take2.result c.close-or-take2.ensures
+    let x = c.args.text.now in
+    let a = c.args in
+    let g = letters_read x a.c.at c.in-Read.is c.word_letters.ensures in
+    pieced_is x (ap (λ (s : Bool). round a.known s a.punycoded a.empty (drop a.c.at x)) (not-false a.subs c.if-not-subs.false-raw) ∙ then_ok _ g.is) g.onward c.close_or_take-in-Read.result c.close_or_take-in-Read.ensures
 
-returns-3 : tie.Need-returns-3
+returns-3 : tie.Need-returns-in-Refused
 returns-3 c =
-    let x = c.before.before.before.before.before.before.args.text.now in
-    let a = c.before.before.before.before.before.before.args in
-    ap (λ (s : Bool). round a.known s a.punycoded a.empty (drop a.c.at x)) (not-false a.subs c.before.before.before.before.if1.false)
-    ∙ then_refused _ (letters_refused x a.c.at c.before.f.given.1 c.before.before.before.word_letters.ensures)
+    let x = c.args.text.now in
+    let a = c.args in
+    ap (λ (s : Bool). round a.known s a.punycoded a.empty (drop a.c.at x)) (not-false a.subs c.if-not-subs.false-raw)
+    ∙ then_refused _ (letters_refused x a.c.at c.in-Refused.is c.word_letters.ensures)
 
 pub round_of_spec : {M : Type 1} → statement M
 round_of_spec =

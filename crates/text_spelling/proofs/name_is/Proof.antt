@@ -11,55 +11,55 @@ use Rattle.text_spelling.proofs.Loops.{taken_part, taken_end, Comparing, compari
 use Rattle.text_spelling.proofs.name_is.Statement.{statement}
 use Rattle.text_spelling.proofs.name_is.Tie as tie
 
-abbrev invariant-loop : tie.invariant-loop
+abbrev invariant-loop : tie.invariant-loop-from
 invariant-loop text p starts lengths known fixed s₀ k₀ s k = Comparing text (lent starts lengths known) p fixed s k
 
-abbrev decreases-loop : tie.decreases-loop
+abbrev decreases-loop : tie.decreases-loop-from
 decreases-loop text p starts lengths known fixed s₀ k₀ s k = length text - s.at
 
 -- the segment that the match took apart
-taken : (c : tie.After-from invariant-loop decreases-loop) → Taken (segment_of (table c.before.before.before.before.before.before.before.args.text.now (lent c.before.before.before.before.before.before.before.args.starts.now c.before.before.before.before.before.before.before.args.lengths.now c.before.before.before.before.before.before.before.args.known)) c.before.before.before.loop.s.more c.before.before.before.loop.s.punycoded (drop c.before.before.before.loop.s.at c.before.before.before.before.before.before.before.args.text.now)) c.before.before.before.before.before.before.before.args.text.now (c.before.before.before.loop.s.at + 1) c.before.before.before.loop.s.punycoded c.from.given.0.0 c.from.given.0.1.0 c.from.given.0.1.1.0
-taken c = taken_part c.before.before.before.before.before.before.before.args.text.now (c.before.before.before.loop.s.at + 1) c.before.before.before.loop.s.punycoded c.from.given.1 c.before.before.next-segment.ensures
+taken : (c : tie.In-Part invariant-loop decreases-loop) → Taken (segment_of (table c.args.text.now (lent c.args.starts.now c.args.lengths.now c.args.known)) c.loop-from.s.more c.loop-from.s.punycoded (drop c.loop-from.s.at c.args.text.now)) c.args.text.now (c.loop-from.s.at + 1) c.loop-from.s.punycoded c.in-Part.from c.in-Part.to c.in-Part.next
+taken c = taken_part c.args.text.now (c.loop-from.s.at + 1) c.loop-from.s.punycoded c.in-Part.is c.next_segment.ensures
 
-first-requires : tie.Need-first-requires invariant-loop decreases-loop
+first-requires : tie.Need-first-s-requires invariant-loop decreases-loop
 first-requires c κs = search rules
 
-loop-holds : tie.Need-loop-init invariant-loop decreases-loop
-loop-holds c = comparing_first c.before.before.before.args.text.now (lent c.before.before.before.args.starts.now c.before.before.before.args.lengths.now c.before.before.before.args.known) c.before.before.before.args.p c.before.before.before.args.fixed.now c.first.ensures
+loop-holds : tie.Need-loop-from-init invariant-loop decreases-loop
+loop-holds c = comparing_first c.args.text.now (lent c.args.starts.now c.args.lengths.now c.args.known) c.args.p c.args.fixed.now c.first-s.ensures
 
-next-segment-requires : tie.Need-next-segment-requires invariant-loop decreases-loop
-next-segment-requires c κs = (c.loop.invariant.inside, c.before.before.before.before.requires.1.1)
+next-segment-requires : tie.Need-next_segment-requires invariant-loop decreases-loop
+next-segment-requires c κs = (c.loop-from.invariant.inside, c.requires.1.1)
 
-enum-known-from : tie.Need-enum-known-from invariant-loop decreases-loop
+enum-known-from : tie.Need-enum_known-from invariant-loop decreases-loop
 enum-known-from c = search rules
 
 stands-requires : tie.Need-stands-requires invariant-loop decreases-loop
-stands-requires c κs = let t = taken c.before in (c.before.before.before.before.loop.invariant.fits, (t.order, t.inside))
+stands-requires c κs = let t = taken c in (c.loop-from.invariant.fits, (t.order, t.inside))
 
-returns : tie.Need-returns invariant-loop decreases-loop
-returns c = comparing_differs c.before.before.before.before.before.before.before.before.before.before.args.text.now (lent c.before.before.before.before.before.before.before.before.before.before.args.starts.now c.before.before.before.before.before.before.before.before.before.before.args.lengths.now c.before.before.before.before.before.before.before.before.before.before.args.known) c.before.before.before.before.before.before.before.before.before.before.args.p c.before.before.before.before.before.before.before.before.before.before.args.fixed.now c.before.before.before.before.before.before.loop.s c.before.before.before.before.before.before.loop.k c.before.before.before.before.before.before.loop.invariant c.before.before.before.from.given.0.0 c.before.before.before.from.given.0.1.0 c.before.before.before.from.given.0.1.1.0 (taken c.before.before.before) c.before.stands.ensures (not-true _ c.if1.true)
+returns : tie.Need-returns-then-not-stands invariant-loop decreases-loop
+returns c = comparing_differs c.args.text.now (lent c.args.starts.now c.args.lengths.now c.args.known) c.args.p c.args.fixed.now c.loop-from.s c.loop-from.k c.loop-from.invariant c.in-Part.from c.in-Part.to c.in-Part.next (taken c.before.before) c.stands.ensures (not-true _ c.if-not-stands.true-raw)
 
-sub-k : tie.Need-overflow-sub-k invariant-loop decreases-loop
-sub-k c = let t = taken c.before.before.before in omega (arith, t.order)
+sub-k : tie.Need-overflow_sub-k invariant-loop decreases-loop
+sub-k c = let t = taken c.before.before in omega (arith, t.order)
 
-add-k : tie.Need-overflow-add-k invariant-loop decreases-loop
-add-k c = let h = comparing_fits c.before.before.before.before.before.before.before.before.before.before.args.text.now (lent c.before.before.before.before.before.before.before.before.before.before.args.starts.now c.before.before.before.before.before.before.before.before.before.before.args.lengths.now c.before.before.before.before.before.before.before.before.before.before.args.known) c.before.before.before.before.before.before.before.before.before.before.args.p c.before.before.before.before.before.before.before.before.before.before.args.fixed.now c.before.before.before.before.before.before.loop.s c.before.before.before.before.before.before.loop.k c.before.before.before.before.before.before.loop.invariant c.before.before.before.from.given.0.0 c.before.before.before.from.given.0.1.0 c.before.before.before.from.given.0.1.1.0 (taken c.before.before.before) c.before.stands.ensures (not-false _ c.if1.false) in omega arith
+add-k : tie.Need-overflow_add-k invariant-loop decreases-loop
+add-k c = let h = comparing_fits c.args.text.now (lent c.args.starts.now c.args.lengths.now c.args.known) c.args.p c.args.fixed.now c.loop-from.s c.loop-from.k c.loop-from.invariant c.in-Part.from c.in-Part.to c.in-Part.next (taken c.before.before) c.stands.ensures (not-false _ c.if-not-stands.false-raw) in omega arith
 
-loop-less : tie.Need-loop-smaller invariant-loop decreases-loop
+loop-less : tie.Need-loop-from-smaller invariant-loop decreases-loop
 loop-less c =
-    let t = taken c.before.before.before in
+    let t = taken c.before.before in
     omega (arith, t.onward, t.within)
 
-loop-again : tie.Need-loop-preserved invariant-loop decreases-loop
-loop-again c = comparing_next c.before.before.before.before.before.before.before.before.before.before.args.text.now (lent c.before.before.before.before.before.before.before.before.before.before.args.starts.now c.before.before.before.before.before.before.before.before.before.before.args.lengths.now c.before.before.before.before.before.before.before.before.before.before.args.known) c.before.before.before.before.before.before.before.before.before.before.args.p c.before.before.before.before.before.before.before.before.before.before.args.fixed.now c.before.before.before.before.before.before.loop.s c.before.before.before.before.before.before.loop.k c.before.before.before.before.before.before.loop.invariant c.before.before.before.from.given.0.0 c.before.before.before.from.given.0.1.0 c.before.before.before.from.given.0.1.1.0 (taken c.before.before.before) c.before.stands.ensures (not-false _ c.if1.false)
+loop-again : tie.Need-loop-from-preserved invariant-loop decreases-loop
+loop-again c = comparing_next c.args.text.now (lent c.args.starts.now c.args.lengths.now c.args.known) c.args.p c.args.fixed.now c.loop-from.s c.loop-from.k c.loop-from.invariant c.in-Part.from c.in-Part.to c.in-Part.next (taken c.before.before) c.stands.ensures (not-false _ c.if-not-stands.false-raw)
 
-enum_told : tie.Need-enum-told invariant-loop decreases-loop
+enum_told : tie.Need-enum_told-1 invariant-loop decreases-loop
 enum_told c = search rules
 
-returns-2 : tie.Need-returns-2 invariant-loop decreases-loop
+returns-2 : tie.Need-returns-in-End invariant-loop decreases-loop
 returns-2 c =
-    comparing_end c.before.before.before.before.before.before.before.args.text.now (lent c.before.before.before.before.before.before.before.args.starts.now c.before.before.before.before.before.before.before.args.lengths.now c.before.before.before.before.before.before.before.args.known) c.before.before.before.before.before.before.before.args.p c.before.before.before.before.before.before.before.args.fixed.now c.before.before.before.loop.s c.before.before.before.loop.k c.before.before.before.loop.invariant
-    (taken_end c.before.before.before.before.before.before.before.args.text.now (c.before.before.before.loop.s.at + 1) c.before.before.before.loop.s.punycoded c.enum_told.given.1 c.before.before.next-segment.ensures)
+    comparing_end c.args.text.now (lent c.args.starts.now c.args.lengths.now c.args.known) c.args.p c.args.fixed.now c.loop-from.s c.loop-from.k c.loop-from.invariant
+    (taken_end c.args.text.now (c.loop-from.s.at + 1) c.loop-from.s.punycoded c.in-End.is c.next_segment.ensures)
 
 pub name_is_spec : {M : Type 1} → statement M
 name_is_spec =

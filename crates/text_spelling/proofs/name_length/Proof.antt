@@ -10,51 +10,51 @@ use Rattle.text_spelling.proofs.Loops.{taken_part, taken_end, Counting, counting
 use Rattle.text_spelling.proofs.name_length.Statement.{statement}
 use Rattle.text_spelling.proofs.name_length.Tie as tie
 
-abbrev invariant-loop : tie.invariant-loop
+abbrev invariant-loop : tie.invariant-loop-from
 invariant-loop text p starts lengths known s₀ sum₀ s sum = Counting text (lent starts lengths known) p s sum
 
-abbrev decreases-loop : tie.decreases-loop
+abbrev decreases-loop : tie.decreases-loop-from
 decreases-loop text p starts lengths known s₀ sum₀ s sum = length text - s.at
 
 -- the segment that the match took apart
-taken : (c : tie.After-from invariant-loop decreases-loop) → Taken (segment_of (table c.before.before.before.before.before.before.args.text.now (lent c.before.before.before.before.before.before.args.starts.now c.before.before.before.before.before.before.args.lengths.now c.before.before.before.before.before.before.args.known)) c.before.before.before.loop.s.more c.before.before.before.loop.s.punycoded (drop c.before.before.before.loop.s.at c.before.before.before.before.before.before.args.text.now)) c.before.before.before.before.before.before.args.text.now (c.before.before.before.loop.s.at + 1) c.before.before.before.loop.s.punycoded c.from.given.0.0 c.from.given.0.1.0 c.from.given.0.1.1.0
-taken c = taken_part c.before.before.before.before.before.before.args.text.now (c.before.before.before.loop.s.at + 1) c.before.before.before.loop.s.punycoded c.from.given.1 c.before.before.next-segment.ensures
+taken : (c : tie.In-Part invariant-loop decreases-loop) → Taken (segment_of (table c.args.text.now (lent c.args.starts.now c.args.lengths.now c.args.known)) c.loop-from.s.more c.loop-from.s.punycoded (drop c.loop-from.s.at c.args.text.now)) c.args.text.now (c.loop-from.s.at + 1) c.loop-from.s.punycoded c.in-Part.from c.in-Part.to c.in-Part.next
+taken c = taken_part c.args.text.now (c.loop-from.s.at + 1) c.loop-from.s.punycoded c.in-Part.is c.next_segment.ensures
 
-first-requires : tie.Need-first-requires invariant-loop decreases-loop
+first-requires : tie.Need-first-s-requires invariant-loop decreases-loop
 first-requires c κs = search rules
 
-loop-holds : tie.Need-loop-init invariant-loop decreases-loop
-loop-holds c = counting_first c.before.before.args.text.now (lent c.before.before.args.starts.now c.before.before.args.lengths.now c.before.before.args.known) c.before.before.args.p c.first.ensures
+loop-holds : tie.Need-loop-from-init invariant-loop decreases-loop
+loop-holds c = counting_first c.args.text.now (lent c.args.starts.now c.args.lengths.now c.args.known) c.args.p c.first-s.ensures
 
-next-segment-requires : tie.Need-next-segment-requires invariant-loop decreases-loop
-next-segment-requires c κs = (c.loop.invariant.inside, c.before.before.before.requires.1.1)
+next-segment-requires : tie.Need-next_segment-requires invariant-loop decreases-loop
+next-segment-requires c κs = (c.loop-from.invariant.inside, c.requires.1.1)
 
-enum-known-from : tie.Need-enum-known-from invariant-loop decreases-loop
+enum-known-from : tie.Need-enum_known-from invariant-loop decreases-loop
 enum-known-from c = search rules
 
-sub-sum : tie.Need-overflow-sub-sum invariant-loop decreases-loop
-sub-sum c = let t = taken c.before in omega (arith, t.order)
+sub-sum : tie.Need-overflow_sub-sum invariant-loop decreases-loop
+sub-sum c = let t = taken c in omega (arith, t.order)
 
-add-sum : tie.Need-overflow-add-sum invariant-loop decreases-loop
+add-sum : tie.Need-overflow_add-sum invariant-loop decreases-loop
 add-sum c =
-    let t = taken c.before in
-    omega (arith, t.inside, t.order, c.before.before.before.before.loop.invariant.small, c.before.before.before.before.loop.invariant.inside, c.before.before.before.before.before.before.before.requires.1.0)
+    let t = taken c in
+    omega (arith, t.inside, t.order, c.loop-from.invariant.small, c.loop-from.invariant.inside, c.requires.1.0)
 
-loop-less : tie.Need-loop-smaller invariant-loop decreases-loop
+loop-less : tie.Need-loop-from-smaller invariant-loop decreases-loop
 loop-less c =
-    let t = taken c.before in
+    let t = taken c in
     omega (arith, t.onward, t.within)
 
-loop-again : tie.Need-loop-preserved invariant-loop decreases-loop
-loop-again c = counting_next c.before.before.before.before.before.before.before.args.text.now (lent c.before.before.before.before.before.before.before.args.starts.now c.before.before.before.before.before.before.before.args.lengths.now c.before.before.before.before.before.before.before.args.known) c.before.before.before.before.before.before.before.args.p c.before.before.before.before.loop.s c.before.before.before.before.loop.sum c.before.before.before.before.loop.invariant c.before.before.before.before.before.before.before.requires.1.0 (taken c.before)
+loop-again : tie.Need-loop-from-preserved invariant-loop decreases-loop
+loop-again c = counting_next c.args.text.now (lent c.args.starts.now c.args.lengths.now c.args.known) c.args.p c.loop-from.s c.loop-from.sum c.loop-from.invariant c.requires.1.0 (taken c)
 
-enum_told : tie.Need-enum-told invariant-loop decreases-loop
+enum_told : tie.Need-enum_told-1 invariant-loop decreases-loop
 enum_told c = search rules
 
-returns : tie.Need-returns invariant-loop decreases-loop
+returns : tie.Need-returns-in-End invariant-loop decreases-loop
 returns c =
-    counting_end c.before.before.before.before.before.before.args.text.now (lent c.before.before.before.before.before.before.args.starts.now c.before.before.before.before.before.before.args.lengths.now c.before.before.before.before.before.before.args.known) c.before.before.before.before.before.before.args.p c.before.before.before.loop.s c.before.before.before.loop.sum c.before.before.before.loop.invariant c.before.before.before.before.before.before.requires.1.0
-    (taken_end c.before.before.before.before.before.before.args.text.now (c.before.before.before.loop.s.at + 1) c.before.before.before.loop.s.punycoded c.enum_told.given.1 c.before.before.next-segment.ensures)
+    counting_end c.args.text.now (lent c.args.starts.now c.args.lengths.now c.args.known) c.args.p c.loop-from.s c.loop-from.sum c.loop-from.invariant c.requires.1.0
+    (taken_end c.args.text.now (c.loop-from.s.at + 1) c.loop-from.s.punycoded c.in-End.is c.next_segment.ensures)
 
 pub name_length_spec : {M : Type 1} → statement M
 name_length_spec =

@@ -12,40 +12,40 @@ use Rattle.text_spelling.proofs.put_name.Statement.{statement}
 use Rattle.text_spelling.proofs.put_name.Tie as tie
 
 -- the bytes after the length
-taken : (c : tie.After-from) → Taken (of_length false false (natural (drop c.before.before.before.before.before.before.before.before.args.p c.before.before.before.before.before.before.before.before.args.text.now))) c.before.before.before.before.before.before.before.before.args.text.now (c.before.before.before.before.before.before.before.before.args.p + 1) false c.from.given.0.0 c.from.given.0.1.0 c.from.given.0.1.1.0
-taken c = taken_part c.before.before.before.before.before.before.before.before.args.text.now (c.before.before.before.before.before.before.before.before.args.p + 1) false c.from.given.1 c.before.before.of_length.ensures
+taken : (c : tie.In-Part) → Taken (of_length false false (natural (drop c.args.p c.args.text.now))) c.args.text.now (c.args.p + 1) false c.in-Part.from c.in-Part.to c.in-Part.field-2
+taken c = taken_part c.args.text.now (c.args.p + 1) false c.in-Part.is c.of_length.ensures
 
-shared-slice-read-if2 : tie.Need-shared-slice-read-if2
+shared-slice-read-if2 : tie.Need-bounds-text-p
 shared-slice-read-if2 c = search rules
 
-of-length-requires : tie.Need-of-length-requires
+of-length-requires : tie.Need-of_length-requires
 of-length-requires c κs = search rules
 
-enum-known-from : tie.Need-enum-known-from
+enum-known-from : tie.Need-enum_known-from
 enum-known-from c = search rules
 
-put-part-requires : tie.Need-put-part-requires
-put-part-requires c κs = let t = taken c.before.before in (c.before.before.before.before.before.before.before.before.before.before.requires.0, (t.order, t.inside))
+put-part-requires : tie.Need-put_part-requires
+put-part-requires c κs = let t = taken c.before in (c.requires.0, (t.order, t.inside))
 
-same_length : tie.Need-same-length
+same_length : tie.Need-shape_of-out-in-Part
 same_length c = search rules
 
-returns : tie.Need-returns
-returns c = plain_put c.before.before.before.before.before.before.before.before.before.before.before.before.before.args.text.now (lent c.before.before.before.before.before.before.before.before.before.before.before.before.before.args.starts.now c.before.before.before.before.before.before.before.before.before.before.before.before.before.args.lengths.now c.before.before.before.before.before.before.before.before.before.before.before.before.before.args.known) c.before.before.before.before.before.before.before.before.before.before.before.before.before.args.p c.before.before.before.before.before.before.before.before.before.before.before.before.before.requires.0 c.before.before.before.before.before.before.before.before.before.before.if1.true c.before.before.before.before.before.before.before.before.if2.true (taken c.before.before.before.before.before) c.before.before.put-part.ensures
+returns : tie.Need-returns-in-Part
+returns c = plain_put c.args.text.now (lent c.args.starts.now c.args.lengths.now c.args.known) c.args.p c.requires.0 c.if-p-text.true c.if-text-p-ne48.true (taken c.before.before.before.before) c.put_part.ensures
 
-enum_told : tie.Need-enum-told
+enum_told : tie.Need-enum_told-1
 enum_told c = search rules
 
-returns-2 : tie.Need-returns-2
-returns-2 c = plain_none c.before.before.before.before.before.before.before.before.args.text.now (lent c.before.before.before.before.before.before.before.before.args.starts.now c.before.before.before.before.before.before.before.before.args.lengths.now c.before.before.before.before.before.before.before.before.args.known) c.before.before.before.before.before.before.before.before.args.p c.before.before.before.before.before.before.before.before.requires.0 c.before.before.before.before.before.if1.true c.before.before.before.if2.true (taken_end c.before.before.before.before.before.before.before.before.args.text.now (c.before.before.before.before.before.before.before.before.args.p + 1) false c.enum_told.given.1 c.before.before.of_length.ensures)
+returns-2 : tie.Need-returns-in-End
+returns-2 c = plain_none c.args.text.now (lent c.args.starts.now c.args.lengths.now c.args.known) c.args.p c.requires.0 c.if-p-text.true c.if-text-p-ne48.true (taken_end c.args.text.now (c.args.p + 1) false c.in-End.is c.of_length.ensures)
 
-put-segments-requires : tie.Need-put-segments-requires
+put-segments-requires : tie.Need-put_segments-requires
 put-segments-requires c κs = search rules
 
-same-length-2 : tie.Need-same-length-2
+same-length-2 : tie.Need-shape_of-out
 same-length-2 c = search rules
 
-returns-3 : tie.Need-returns-3
+returns-3 : tie.Need-returns
 returns-3 c = search rules
 
 pub put_name_spec : {M : Type 1} → statement M

@@ -14,60 +14,60 @@ pop-requires : tie.Need-pop-requires
 pop-requires c κs = search rules
 
 -- src/lib.rt:37:23
-enum-known-p : tie.Need-enum-known-p
+enum-known-p : tie.Need-enum_known-p
 enum-known-p c = search rules
 
 -- src/lib.rt:38:17
-field-requires : tie.Need-field-requires
-field-requires c κs = (place_inside _ (took_below (popped _ _ c.before.before.p.given.1 c.before.before.before.before.pop.ensures) c.before.before.before.before.before.before.before.requires) c.before.before.before.before.before.before.before.requires, omega arith)
+field-requires : tie.Need-field-kind-requires
+field-requires c κs = (place_inside _ (took_below (popped _ _ c.in-Place.is c.pop.ensures) c.requires) c.requires, omega arith)
 
 -- src/lib.rt:40:21
-field-requires-2 : tie.Need-field-requires-2
-field-requires-2 c κs = (place_inside _ (took_below (popped _ _ c.before.before.before.before.before.p.given.1 c.before.before.before.before.before.before.before.pop.ensures) c.before.before.before.before.before.before.before.before.before.before.requires) c.before.before.before.before.before.before.before.before.before.before.requires, omega arith)
+field-requires-2 : tie.Need-field-name-requires
+field-requires-2 c κs = (place_inside _ (took_below (popped _ _ c.in-Place.is c.pop.ensures) c.requires) c.requires, omega arith)
 
 -- src/lib.rt:49:43
 grow-requires : tie.Need-grow-requires
-grow-requires c κs = took_room (popped _ _ c.before.before.before.before.before.before.before.p.given.1 c.before.before.before.before.before.before.before.before.before.pop.ensures) c.before.before.before.before.before.before.before.before.before.before.before.before.requires
+grow-requires c κs = took_room (popped _ _ c.in-Place.is c.pop.ensures) c.requires
 
 -- src/lib.rt:49:17
-same_length : tie.Need-same-length
+same_length : tie.Need-shape_of-ws-then-kind-eq0
 same_length c = search rules
 
 -- src/lib.rt:49:17
-returns : tie.Need-returns
-returns c = context_module (popped _ _ c.before.before.before.before.before.before.before.before.before.before.p.given.1 c.before.before.before.before.before.before.before.before.before.before.before.before.pop.ensures) _ c.before.before.before.before.field2.ensures c.before.before.before.before.before.before.before.before.before.before.before.before.before.before.before.requires (ap K.is_identifier (sym c.before.before.before.before.before.before.before.field.ensures) ∙ eq-eqb _ _ c.before.before.before.before.before.before.if1.true) c.before.before.grow.ensures
+returns : tie.Need-returns-then-kind-eq0
+returns c = context_module (popped _ _ c.in-Place.is c.pop.ensures) _ c.field-name.ensures c.requires (ap K.is_identifier (sym c.field-kind.ensures) ∙ eq-eqb _ _ c.if-kind-eq0.true) c.grow.ensures
 
 -- src/lib.rt:51:16
-is-context-requires : tie.Need-is-context-requires
+is-context-requires : tie.Need-is_context-requires
 is-context-requires c κs = search rules
 
 -- src/lib.rt:52:17
-same-length-2 : tie.Need-same-length-2
+same-length-2 : tie.Need-shape_of-ws-then-is_context
 same-length-2 c = search rules
 
 -- src/lib.rt:52:17
-returns-2 : tie.Need-returns-2
-returns-2 c = context_direct (popped _ _ c.before.before.before.before.before.before.p.given.1 c.before.before.before.before.before.before.before.before.pop.ensures) c.before.before.before.before.before.before.before.before.before.before.before.requires (ap K.is_identifier (sym c.before.before.before.field.ensures) ∙ ne_eqb _ _ c.before.before.if1.false) (ap K.is_context (sym c.before.before.before.field.ensures) ∙ sym c.before.is_context.ensures ∙ c.if2.true)
+returns-2 : tie.Need-returns-then-is_context
+returns-2 c = context_direct (popped _ _ c.in-Place.is c.pop.ensures) c.requires (ap K.is_identifier (sym c.field-kind.ensures) ∙ ne_eqb _ _ c.if-kind-eq0.false) (ap K.is_context (sym c.field-kind.ensures) ∙ sym c.is_context.ensures ∙ c.if-is_context.true)
 
 -- src/lib.rt:56:28
-enum_told : tie.Need-enum-told
+enum_told : tie.Need-enum_told-1
 enum_told c = search rules
 
 -- src/lib.rt:32:1
-same-length-3 : tie.Need-same-length-3
+same-length-3 : tie.Need-shape_of-ws-else-is_context
 same-length-3 c = search rules
 
 -- src/lib.rt:32:1
-returns-3 : tie.Need-returns-3
-returns-3 c = (context_refused (popped _ _ c.before.before.before.before.before.before.p.given.1 c.before.before.before.before.before.before.before.before.pop.ensures) (ap K.is_identifier (sym c.before.before.before.field.ensures) ∙ ne_eqb _ _ c.before.before.if1.false) (ap K.is_context (sym c.before.before.before.field.ensures) ∙ sym c.before.is_context.ensures ∙ c.if2.false), beyond_itself _ _)
+returns-3 : tie.Need-returns-else-is_context
+returns-3 c = (context_refused (popped _ _ c.in-Place.is c.pop.ensures) (ap K.is_identifier (sym c.field-kind.ensures) ∙ ne_eqb _ _ c.if-kind-eq0.false) (ap K.is_context (sym c.field-kind.ensures) ∙ sym c.is_context.ensures ∙ c.if-is_context.false), beyond_itself _ _)
 
 -- src/lib.rt:32:1
-same-length-4 : tie.Need-same-length-4
+same-length-4 : tie.Need-shape_of-ws-in-Nothing
 same-length-4 c = search rules
 
 -- src/lib.rt:32:1
-returns-4 : tie.Need-returns-4
-returns-4 c = (λ nm sp m h. context_empty m (popped_nothing c.enum_told.given.1 c.before.before.pop.ensures nm sp m h), beyond_itself _ _)
+returns-4 : tie.Need-returns-in-Nothing
+returns-4 c = (λ nm sp m h. context_empty m (popped_nothing c.in-Nothing.is c.pop.ensures nm sp m h), beyond_itself _ _)
 
 pub context_spec : {M : Type 1} → statement M
 context_spec =

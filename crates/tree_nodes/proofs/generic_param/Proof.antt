@@ -24,12 +24,12 @@ grow-requires : tie.Need-grow-requires
 grow-requires c κs = search rules
 
 -- src/lib.rt:266:1
-same_length : tie.Need-same-length
+same_length : tie.Need-shape_of-ws
 same_length c = search rules
 
 -- src/lib.rt:266:1
 returns : tie.Need-returns
-returns c = generic_made c.before.before.before.before.before.before.before.before.before.args.p _ _ _ _ c.before.before.before.before.before.before.before.low.ensures c.before.before.before.before.before.before.high.ensures c.before.before.before.before.before.low2.ensures c.before.before.before.before.high2.ensures c.before.before.grow.ensures
+returns c = generic_made c.args.p _ _ _ _ c.low.ensures c.high.ensures c.low-2.ensures c.high-2.ensures c.grow.ensures
 
 pub generic_param_spec : {M : Type 1} → statement M
 generic_param_spec =

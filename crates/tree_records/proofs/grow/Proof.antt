@@ -11,16 +11,19 @@ make-requires : tie.Need-make-requires
 make-requires c κs = search rules
 
 -- src/lib.rt:89:16
-add-next : tie.Need-overflow-add-next
+add-next : tie.Need-overflow_add-next
 add-next c = search rules
 
 -- src/lib.rt:82:1
-same_length : tie.Need-same-length
+same_length : tie.Need-shape_of-ws
 same_length c = search rules
 
 -- src/lib.rt:82:1
 returns : tie.Need-returns
-returns c = grew _ _ _ c.before.before.before.before.before.args.st _ c.before.before.before.before.before.requires c.before.before.make.ensures
+returns c = grew _ _ _ c.args.st _ c.requires c.make.ensures
 
 pub grow_spec : {M : Type 1} → statement M
-grow_spec = tie.close (tie.spec make-requires add-next same_length returns)
+grow_spec = tie.close (tie.spec make-requires
+    add-next
+    same_length
+    returns)

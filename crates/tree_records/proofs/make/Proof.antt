@@ -10,103 +10,103 @@ use Rattle.tree_records.proofs.make.Reads as reads
 use Rattle.tree_records.proofs.make.Lts as lts
 
 -- src/lib.rt:31:13
-mul-i : tie.Need-overflow-mul-i
+mul-i : tie.Need-overflow_mul-i
 mul-i c = search rules
 
 -- src/lib.rt:32:5
-mul-ws : tie.Need-overflow-mul-ws
+mul-ws : tie.Need-offset_bounds-ws-i
 mul-ws c = search rules
 
 -- src/lib.rt:32:5
-slice-write-ws : tie.Need-slice-write-ws
+slice-write-ws : tie.Need-bounds-ws-i
 slice-write-ws c = search rules
 
 -- src/lib.rt:33:8
-add-ws : tie.Need-overflow-add-ws
+add-ws : tie.Need-overflow_add-ws
 add-ws c = search rules
 
 -- src/lib.rt:33:5
-mul-ws-2 : tie.Need-overflow-mul-ws-2
+mul-ws-2 : tie.Need-offset_bounds-ws-i-2
 mul-ws-2 c = search rules
 
 -- src/lib.rt:33:5
-slice-write-ws-2 : tie.Need-slice-write-ws-2
+slice-write-ws-2 : tie.Need-bounds-ws-i-2
 slice-write-ws-2 c = simp length-set (omega arith)
 
 -- src/lib.rt:34:8
-add-ws-2 : tie.Need-overflow-add-ws-2
+add-ws-2 : tie.Need-overflow_add-ws-2
 add-ws-2 c = search rules
 
 -- src/lib.rt:34:5
-mul-ws-3 : tie.Need-overflow-mul-ws-3
+mul-ws-3 : tie.Need-offset_bounds-ws-i-3
 mul-ws-3 c = search rules
 
 -- src/lib.rt:34:5
-slice-write-ws-3 : tie.Need-slice-write-ws-3
+slice-write-ws-3 : tie.Need-bounds-ws-i-3
 slice-write-ws-3 c = simp length-set (omega arith)
 
 -- src/lib.rt:35:8
-add-ws-3 : tie.Need-overflow-add-ws-3
+add-ws-3 : tie.Need-overflow_add-ws-3
 add-ws-3 c = search rules
 
 -- src/lib.rt:35:5
-mul-ws-4 : tie.Need-overflow-mul-ws-4
+mul-ws-4 : tie.Need-offset_bounds-ws-i-4
 mul-ws-4 c = search rules
 
 -- src/lib.rt:35:5
-slice-write-ws-4 : tie.Need-slice-write-ws-4
+slice-write-ws-4 : tie.Need-bounds-ws-i-4
 slice-write-ws-4 c = simp length-set (omega arith)
 
 -- src/lib.rt:36:8
-add-ws-4 : tie.Need-overflow-add-ws-4
+add-ws-4 : tie.Need-overflow_add-ws-4
 add-ws-4 c = search rules
 
 -- src/lib.rt:36:5
-mul-ws-5 : tie.Need-overflow-mul-ws-5
+mul-ws-5 : tie.Need-offset_bounds-ws-i-5
 mul-ws-5 c = search rules
 
 -- src/lib.rt:36:5
-slice-write-ws-5 : tie.Need-slice-write-ws-5
+slice-write-ws-5 : tie.Need-bounds-ws-i-5
 slice-write-ws-5 c = simp length-set (omega arith)
 
 -- src/lib.rt:37:8
-add-ws-5 : tie.Need-overflow-add-ws-5
+add-ws-5 : tie.Need-overflow_add-ws-5
 add-ws-5 c = search rules
 
 -- src/lib.rt:37:5
-mul-ws-6 : tie.Need-overflow-mul-ws-6
+mul-ws-6 : tie.Need-offset_bounds-ws-i-6
 mul-ws-6 c = search rules
 
 -- src/lib.rt:37:5
-slice-write-ws-6 : tie.Need-slice-write-ws-6
+slice-write-ws-6 : tie.Need-bounds-ws-i-6
 slice-write-ws-6 c = simp length-set (omega arith)
 
 -- src/lib.rt:38:8
-add-ws-6 : tie.Need-overflow-add-ws-6
+add-ws-6 : tie.Need-overflow_add-ws-6
 add-ws-6 c = search rules
 
 -- src/lib.rt:38:5
-mul-ws-7 : tie.Need-overflow-mul-ws-7
+mul-ws-7 : tie.Need-offset_bounds-ws-i-7
 mul-ws-7 c = search rules
 
 -- src/lib.rt:38:5
-slice-write-ws-7 : tie.Need-slice-write-ws-7
+slice-write-ws-7 : tie.Need-bounds-ws-i-7
 slice-write-ws-7 c = simp length-set (omega arith)
 
 -- src/lib.rt:39:8
-add-ws-7 : tie.Need-overflow-add-ws-7
+add-ws-7 : tie.Need-overflow_add-ws-7
 add-ws-7 c = search rules
 
 -- src/lib.rt:39:5
-mul-ws-8 : tie.Need-overflow-mul-ws-8
+mul-ws-8 : tie.Need-offset_bounds-ws-i-8
 mul-ws-8 c = search rules
 
 -- src/lib.rt:39:5
-slice-write-ws-8 : tie.Need-slice-write-ws-8
+slice-write-ws-8 : tie.Need-bounds-ws-i-8
 slice-write-ws-8 c = simp length-set (omega arith)
 
 -- src/lib.rt:27:1
-same_length : tie.Need-same-length
+same_length : tie.Need-shape_of-ws
 same_length c = search rules
 
 -- src/lib.rt:27:1

@@ -8,36 +8,36 @@ use Rattle.tree_records.proofs.pop.Lts as lts
 use Rattle.tree_records.proofs.wide.Reads as wide-reads
 
 -- src/lib.rt:72:9
-returns : tie.Need-returns
-returns c nm sp m h = empty_stack h c.if1.true
+returns : tie.Need-returns-then-depth-eq0
+returns c nm sp m h = empty_stack h c.if-depth-eq0.true
 
 -- src/lib.rt:74:13
-sub-d : tie.Need-overflow-sub-d
+sub-d : tie.Need-overflow_sub-d
 sub-d c = search rules
 
 -- src/lib.rt:75:21
-mul_wide : tie.Need-overflow-mul-wide
+mul_wide : tie.Need-overflow_mul-n
 mul_wide c = search rules
 
 -- src/lib.rt:75:21
-add_wide : tie.Need-overflow-add-wide
+add_wide : tie.Need-overflow_add-n
 add_wide c = search rules
 
 -- src/lib.rt:75:18
-mul-wide-2 : tie.Need-overflow-mul-wide-2
+mul-wide-2 : tie.Need-offset_bounds-ws-n
 mul-wide-2 c = search rules
 
 -- src/lib.rt:75:18
-shared-slice-read-wide : tie.Need-shared-slice-read-wide
+shared-slice-read-wide : tie.Need-bounds-ws-n
 shared-slice-read-wide c = search rules
 
 -- src/lib.rt:75:9
-wide-requires : tie.Need-wide-requires
+wide-requires : tie.Need-wide-p-requires
 wide-requires c κs = search rules
 
 -- src/lib.rt:66:1
-returns-2 : tie.Need-returns-2
-returns-2 c = took _ _ c.before.before.before.before.args.st _ (omega arith) c.wide.ensures.0 c.wide.ensures.1
+returns-2 : tie.Need-returns
+returns-2 c = took _ _ c.args.st _ (omega arith) c.wide-p.ensures.0 c.wide-p.ensures.1
 
 pub pop_spec : {M : Type 1} → statement M
 pop_spec =

@@ -12,35 +12,35 @@ use native.Mathlib.Omega.{arith}
 use Rattle.operator_operands.proofs.standard_types.standard.Statement.{statement}
 use Rattle.operator_operands.proofs.standard_types.standard.Tie as tie
 
-peek-is-digit-requires : tie.Need-peek-is-digit-requires
+peek-is-digit-requires : tie.Need-peek_is_digit-requires
 peek-is-digit-requires c κs = search rules
 
 natural-requires : tie.Need-natural-requires
 natural-requires c κs = search rules
 
-enum-known-n : tie.Need-enum-known-n
+enum-known-n : tie.Need-enum_known-n
 enum-known-n c = search rules
 
-standard-repeat-requires : tie.Need-standard-repeat-requires
+standard-repeat-requires : tie.Need-standard_repeat-requires
 standard-repeat-requires c κs = search rules
 
-enum-known-f : tie.Need-enum-known-f
+enum-known-f : tie.Need-enum_known-f
 enum-known-f c = search rules
 
-returns : tie.Need-returns
+returns : tie.Need-returns-in-Read
 returns c =
-    let g = number_read c.before.before.before.before.before.before.before.before.args.text.now c.before.before.before.before.before.before.before.before.args.c.at c.before.before.n.given.1 c.before.before.before.before.natural.ensures in
-    let l : c.before.before.before.before.before.before.before.before.args.c.at ≤ c.before.before.n.given.0.1.0.at = omega arith in
-    operated_is c.before.before.before.before.before.before.before.before.args.text.now (standard_digits (drop c.before.before.before.before.before.before.before.before.args.c.at c.before.before.before.before.before.before.before.before.args.text.now) (sym c.before.before.before.before.before.before.peek-is-digit.ensures ∙ c.before.before.before.before.before.if1.true) ∙ then_ok repeated g.is) l c.standard-repeat.result c.standard-repeat.ensures
+    let g = number_read c.args.text.now c.args.c.at c.in-Read.is c.natural.ensures in
+    let l : c.args.c.at ≤ c.in-Read.next.at = omega arith in
+    operated_is c.args.text.now (standard_digits (drop c.args.c.at c.args.text.now) (sym c.peek_is_digit.ensures ∙ c.if-peek_is_digit.true) ∙ then_ok repeated g.is) l c.standard_repeat.result c.standard_repeat.ensures
 
-returns-2 : tie.Need-returns-2
-returns-2 c = standard_digits (drop c.before.before.before.before.before.before.before.args.c.at c.before.before.before.before.before.before.before.args.text.now) (sym c.before.before.before.before.before.peek-is-digit.ensures ∙ c.before.before.before.before.if1.true) ∙ then_refused repeated (number_refused c.before.before.before.before.before.before.before.args.text.now c.before.before.before.before.before.before.before.args.c.at c.before.f.given.1 c.before.before.before.natural.ensures)
+returns-2 : tie.Need-returns-in-Refused
+returns-2 c = standard_digits (drop c.args.c.at c.args.text.now) (sym c.peek_is_digit.ensures ∙ c.if-peek_is_digit.true) ∙ then_refused repeated (number_refused c.args.text.now c.args.c.at c.in-Refused.is c.natural.ensures)
 
-standard-repeat-requires-2 : tie.Need-standard-repeat-requires-2
+standard-repeat-requires-2 : tie.Need-standard_repeat-requires-2
 standard-repeat-requires-2 c κs = search rules
 
-returns-3 : tie.Need-returns-3
-returns-3 c = operated_is c.before.before.before.before.args.text.now (standard_one (drop c.before.before.before.before.args.c.at c.before.before.before.before.args.text.now) (sym c.before.before.peek-is-digit.ensures ∙ c.before.if1.false)) (le_refl _) c.standard-repeat2.result c.standard-repeat2.ensures
+returns-3 : tie.Need-returns
+returns-3 c = operated_is c.args.text.now (standard_one (drop c.args.c.at c.args.text.now) (sym c.peek_is_digit.ensures ∙ c.if-peek_is_digit.false)) (le_refl _) c.standard_repeat-2.result c.standard_repeat-2.ensures
 
 pub standard_spec : {M : Type 1} → statement M
 standard_spec =

@@ -21,53 +21,43 @@ use Rattle.operator_operands.proofs.standard_types.standard_type.Statement.{stat
 use Rattle.operator_operands.proofs.standard_types.standard_type.Tie as tie
 
 -- the index is one in the definition's table
-placed : (c : tie.After-place-of) → c.place_of.result ≡ place c.before.before.args.b (letters standard_types)
+placed : (c : tie.After-place_of-i) → c.place_of-i.result ≡ place c.args.b (letters standard_types)
 unfolding opened₀ letters
-placed c = c.place_of.ensures
+placed c = c.place_of-i.ensures
 
-slice-aggregate-place-of : tie.Need-slice-aggregate-place-of
-slice-aggregate-place-of c = search rules
-
-place-of-requires : tie.Need-place-of-requires
+place-of-requires : tie.Need-place_of-i-requires
 place-of-requires c κs = search rules
 
-array-read-standard-kind : tie.Need-array-read-standard-kind
-array-read-standard-kind c = search rules
-
-standard-kind-requires : tie.Need-standard-kind-requires
+standard-kind-requires : tie.Need-standard_kind-kind-requires
 standard-kind-requires c κs = search rules
 
-array-read-wide : tie.Need-array-read-wide
-array-read-wide c = search rules
-
-wide-requires : tie.Need-wide-requires
+wide-requires : tie.Need-wide-name-requires
 wide-requires c κs = search rules
 
-returns : tie.Need-returns
+returns : tie.Need-returns-then-i-lt-STANDARD_TYPES
 unfolding standard_kinds standard_names Enums.operator Enums.leaf
 returns c = λ t h. record {
   is =
-      or_some (λ (s : NominalKind × String) (u : Text). ok (standard c.before.before.before.before.before.args.repeat (standard_nominal s.0 s.1)) u) (drop c.before.before.before.before.before.args.c.at t)
-      (pick_at standard_types c.before.before.before.before.before.args.b c.before.before.before.place_of.result (placed c.before.before.before) ∙ standard_at c.before.before.before.place_of.result c.before.before.if1.true)
-      ∙ ap (λ (k : NominalKind). ok (standard c.before.before.before.before.before.args.repeat (standard_nominal k (fixed (get_or standard_names c.before.before.before.place_of.result 0)))) (drop c.before.before.before.before.before.args.c.at t)) (sym c.before.standard_kind.ensures)
-      ∙ ap (λ (n : ℕ). ok (standard c.before.before.before.before.before.args.repeat (standard_nominal (Enums.nominal_kind c.before.standard_kind.result) (fixed n))) (drop c.before.before.before.before.before.args.c.at t)) (sym c.wide.ensures);
+      or_some (λ (s : NominalKind × String) (u : Text). ok (standard c.args.repeat (standard_nominal s.0 s.1)) u) (drop c.args.c.at t)
+      (pick_at standard_types c.args.b c.place_of-i.result (placed c.before.before.before.before.before.before.before) ∙ standard_at c.place_of-i.result c.if-i-lt-STANDARD_TYPES.true)
+      ∙ ap (λ (k : NominalKind). ok (standard c.args.repeat (standard_nominal k (fixed (get_or standard_names c.place_of-i.result 0)))) (drop c.args.c.at t)) (sym c.standard_kind-kind.ensures)
+      ∙ ap (λ (n : ℕ). ok (standard c.args.repeat (standard_nominal (Enums.nominal_kind c.standard_kind-kind.result) (fixed n))) (drop c.args.c.at t)) (sym c.wide-name.ensures);
   inside = h;
   onward = omega arith;
 }
 
-returns-2 : tie.Need-returns-2
+returns-2 : tie.Need-returns
 unfolding opened₀ entries number
-returns-2 c = λ t h. or_none (λ (s : NominalKind × String) (u : Text). ok (standard c.before.before.before.args.repeat (standard_nominal s.0 s.1)) u) (drop c.before.before.before.args.c.at t) (pick_none standard_types c.before.before.before.args.b c.before.place_of.result (placed c.before) c.if1.false)
+returns-2 c = λ t h. or_none (λ (s : NominalKind × String) (u : Text). ok (standard c.args.repeat (standard_nominal s.0 s.1)) u) (drop c.args.c.at t) (pick_none standard_types c.args.b c.place_of-i.result (placed c.before) c.if-i-lt-STANDARD_TYPES.false)
 
 pub standard_type_spec : {M : Type 1} → statement M
 standard_type_spec =
     tie.close
     (tie.spec
-    slice-aggregate-place-of
     place-of-requires
-    array-read-standard-kind
+    (λ c. search rules)
     standard-kind-requires
-    array-read-wide
+    (λ c. search rules)
     wide-requires
     returns
     returns-2)

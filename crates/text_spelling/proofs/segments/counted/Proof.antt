@@ -8,33 +8,39 @@ use Rattle.text_spelling.proofs.segments.Steps.{counted_none, counted_short, cou
 use Rattle.text_spelling.proofs.segments.counted.Statement.{statement}
 use Rattle.text_spelling.proofs.segments.counted.Tie as tie
 
-returns : tie.Need-returns
-returns c = counted_none c.before.before.args.more c.before.before.args.punycoded c.before.before.args.n (drop c.before.before.args.at c.before.before.args.text.now) c.if1.true
+returns : tie.Need-returns-then-n-eq0
+returns c = counted_none c.args.more c.args.punycoded c.args.n (drop c.args.at c.args.text.now) c.if-n-eq0.true
 
-behind-mark-requires : tie.Need-behind-mark-requires
+behind-mark-requires : tie.Need-behind_mark-from-requires
 behind-mark-requires c κs = search rules
 
-sub-if2 : tie.Need-overflow-sub-if2
+sub-if2 : tie.Need-overflow_sub-len
 sub-if2 c = search rules
 
-returns-2 : tie.Need-returns-2
+returns-2 : tie.Need-returns-then-len-from
 returns-2 c =
-    let positive : 0 < c.before.before.before.before.args.n = omega arith in
-    counted_short c.before.before.before.before.args.more c.before.before.before.before.args.punycoded c.before.before.before.before.args.text.now c.before.before.before.before.args.at c.before.behind-mark.result c.before.before.before.before.args.n positive c.before.behind-mark.ensures c.if2.true
+    let positive : 0 < c.args.n = omega arith in
+    counted_short c.args.more c.args.punycoded c.args.text.now c.args.at c.behind_mark-from.result c.args.n positive c.behind_mark-from.ensures c.if-len-from.true
 
-add-to : tie.Need-overflow-add-to
+add-to : tie.Need-overflow_add-to
 add-to c = search rules
 
-returns-3 : tie.Need-returns-3
+returns-3 : tie.Need-returns-then-more
 returns-3 c =
-    let positive : 0 < c.before.before.before.before.before.args.n = omega arith in
-    counted_more c.before.before.before.before.before.args.more c.before.before.before.before.before.args.punycoded c.before.before.before.before.before.args.text.now c.before.before.before.before.before.args.at c.before.before.behind-mark.result c.before.before.before.before.before.args.n positive c.before.before.behind-mark.ensures c.before.if2.false c.if3.true refl
+    let positive : 0 < c.args.n = omega arith in
+    counted_more c.args.more c.args.punycoded c.args.text.now c.args.at c.behind_mark-from.result c.args.n positive c.behind_mark-from.ensures c.if-len-from.false c.if-more.true refl
 
-returns-4 : tie.Need-returns-4
+returns-4 : tie.Need-returns
 returns-4 c =
-    let positive : 0 < c.before.before.before.before.before.args.n = omega arith in
-    counted_last c.before.before.before.before.before.args.more c.before.before.before.before.before.args.punycoded c.before.before.before.before.before.args.text.now c.before.before.before.before.before.args.at c.before.before.behind-mark.result c.before.before.before.before.before.args.n positive c.before.before.behind-mark.ensures c.before.if2.false c.if3.false refl
+    let positive : 0 < c.args.n = omega arith in
+    counted_last c.args.more c.args.punycoded c.args.text.now c.args.at c.behind_mark-from.result c.args.n positive c.behind_mark-from.ensures c.if-len-from.false c.if-more.false refl
 
 pub counted_spec : {M : Type 1} → statement M
 counted_spec =
-    tie.close (tie.spec returns behind-mark-requires sub-if2 returns-2 add-to returns-3 returns-4)
+    tie.close (tie.spec returns
+    behind-mark-requires
+    sub-if2
+    returns-2
+    add-to
+    returns-3
+    returns-4)

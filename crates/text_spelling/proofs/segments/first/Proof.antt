@@ -6,23 +6,26 @@ use Rattle.text_spelling.proofs.segments.Steps.{start_plain, start_zero}
 use Rattle.text_spelling.proofs.segments.first.Statement.{statement}
 use Rattle.text_spelling.proofs.segments.first.Tie as tie
 
-next-if-requires : tie.Need-next-if-requires
+next-if-requires : tie.Need-next_if-one-requires
 next-if-requires c κs = search rules
 
-next-if-requires-2 : tie.Need-next-if-requires-2
+next-if-requires-2 : tie.Need-next_if-two-requires
 next-if-requires-2 c κs = search rules
 
-returns : tie.Need-returns
+returns : tie.Need-returns-then-zero
 returns c = record {
-  is = start_zero (drop c.before.before.before.before.before.before.args.p c.before.before.before.before.before.before.args.text.now) (taken_is c.before.before.before.before.next_if.ensures.is c.before.before.if1.true) c.before.next-if2.ensures.is;
-  inside = c.before.next-if2.ensures.inside;
+  is = start_zero (drop c.args.p c.args.text.now) (taken_is c.next_if-one.ensures.is c.if-zero.true) c.next_if-two.ensures.is;
+  inside = c.next_if-two.ensures.inside;
 }
 
-returns-2 : tie.Need-returns-2
+returns-2 : tie.Need-returns
 returns-2 c = record {
-  is = start_plain (drop c.before.before.before.before.args.p c.before.before.before.before.args.text.now) (taken_is c.before.before.next_if.ensures.is c.if1.false);
-  inside = c.before.before.next_if.ensures.inside;
+  is = start_plain (drop c.args.p c.args.text.now) (taken_is c.next_if-one.ensures.is c.if-zero.false);
+  inside = c.next_if-one.ensures.inside;
 }
 
 pub first_spec : {M : Type 1} → statement M
-first_spec = tie.close (tie.spec next-if-requires next-if-requires-2 returns returns-2)
+first_spec = tie.close (tie.spec next-if-requires
+    next-if-requires-2
+    returns
+    returns-2)

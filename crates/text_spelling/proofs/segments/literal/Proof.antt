@@ -8,21 +8,24 @@ use Rattle.text_spelling.proofs.segments.Steps.{segment_is, literal_closed, lite
 use Rattle.text_spelling.proofs.segments.literal.Statement.{statement}
 use Rattle.text_spelling.proofs.segments.literal.Tie as tie
 
-next-if-requires : tie.Need-next-if-requires
+next-if-requires : tie.Need-next_if-zero-requires
 next-if-requires c κs = search rules
 
-returns : tie.Need-returns
-returns c = literal_closed c.before.before.before.before.args.more c.before.before.before.before.args.punycoded (drop c.before.before.before.before.args.at c.before.before.before.before.args.text.now) (taken_is c.before.before.next_if.ensures.is c.if1.true)
+returns : tie.Need-returns-then-closed
+returns c = literal_closed c.args.more c.args.punycoded (drop c.args.at c.args.text.now) (taken_is c.next_if-zero.ensures.is c.if-closed.true)
 
-of-length-requires : tie.Need-of-length-requires
+of-length-requires : tie.Need-of_length-requires
 of-length-requires c κs = search rules
 
-returns-2 : tie.Need-returns-2
+returns-2 : tie.Need-returns
 returns-2 c =
-    let l : c.before.before.before.before.before.args.at + 1 ≤ c.before.before.before.next_if.result.next.at + 1 = omega (arith, c.before.before.before.next_if.ensures.onward) in
-    segment_is c.before.before.before.before.before.args.text.now c.before.before.before.before.before.args.punycoded
-    (literal_open c.before.before.before.before.before.args.more c.before.before.before.before.before.args.punycoded (drop c.before.before.before.before.before.args.at c.before.before.before.before.before.args.text.now) (taken_is c.before.before.before.next_if.ensures.is c.before.if1.false))
+    let l : c.args.at + 1 ≤ c.next_if-zero.result.next.at + 1 = omega (arith, c.next_if-zero.ensures.onward) in
+    segment_is c.args.text.now c.args.punycoded
+    (literal_open c.args.more c.args.punycoded (drop c.args.at c.args.text.now) (taken_is c.next_if-zero.ensures.is c.if-closed.false))
     l c.of_length.result c.of_length.ensures
 
 pub literal_spec : {M : Type 1} → statement M
-literal_spec = tie.close (tie.spec next-if-requires returns of-length-requires returns-2)
+literal_spec = tie.close (tie.spec next-if-requires
+    returns
+    of-length-requires
+    returns-2)
