@@ -1,6 +1,7 @@
 // The shape check's only interpreter, and what a row leaves. The entries of the stack are stored in
 // the lent workspace from place 0 on, the remembered ones from place N on, three numbers each.
 #![tactic(auto)]
+
 ghost use Rattle.std.specs.Prelude.{◌+◌, ◌-◌, ◌*◌, ◌^◌, ◌≤◌, ◌<◌};
 ghost use Rattle.check_rows.specs.Table.{row_leaves};
 ghost use Rattle.check_entries.specs.Lies.{entry_of, taken_of};

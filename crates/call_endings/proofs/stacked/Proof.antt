@@ -13,7 +13,7 @@ use Rattle.call_endings.proofs.stacked.Lts as lts
 use Rattle.call_endings.proofs.counts.Reads as counts-reads
 
 -- src/lib.rt:36:26
-enum-known-written : tie.Need-enum-known-written
+enum-known-written : tie.Need-enum_known-written
 enum-known-written c = search rules
 
 -- src/lib.rt:36:49
@@ -21,16 +21,20 @@ counts-requires : tie.Need-counts-requires
 counts-requires c κs = search rules
 
 -- src/lib.rt:37:42
-enum_told : tie.Need-enum-told
+enum_told : tie.Need-enum_told-1
 enum_told c = search rules
 
 -- src/lib.rt:32:1
-returns : tie.Need-returns
-returns c = stacked_numbers c.before.before.before.before.args.budget _ c.before.before.written.given.1 c.counts.ensures
+returns : tie.Need-returns-in-Numbers
+returns c = stacked_numbers c.args.budget _ c.in-Numbers.is c.counts.ensures
 
 -- src/lib.rt:32:1
-returns-2 : tie.Need-returns-2
-returns-2 c = stacked_past c.before.before.args.budget _ c.enum_told.given.1
+returns-2 : tie.Need-returns-in-Past
+returns-2 c = stacked_past c.args.budget _ c.in-Past.is
 
 pub stacked_spec : {M : Type 1} → statement M
-stacked_spec = tie.close (tie.spec enum-known-written counts-requires enum_told returns returns-2)
+stacked_spec = tie.close (tie.spec enum-known-written
+    counts-requires
+    enum_told
+    returns
+    returns-2)

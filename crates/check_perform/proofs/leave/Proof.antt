@@ -6,34 +6,34 @@ use borrow.Author.Rules.{rules}
 use Rattle.check_perform.proofs.leave.Statement.{statement}
 use Rattle.check_perform.proofs.leave.Tie as tie
 
-left-by-requires : tie.Need-left-by-requires
+left-by-requires : tie.Need-left_by-e-requires
 left-by-requires c κs = search rules
 
 remembers-requires : tie.Need-remembers-requires
 remembers-requires c κs = search rules
 
-remember-requires : tie.Need-remember-requires
+remember-requires : tie.Need-remember-kept-requires
 remember-requires c κs = search rules
 
-put-on-requires : tie.Need-put-on-requires
-put-on-requires c κs = (puts_after c.before.before.before.before.before.before.before.before.before.requires.0 c.before.before.before.remember.ensures, c.before.before.before.before.before.before.before.left_by.ensures.one)
+put-on-requires : tie.Need-put_on-requires
+put-on-requires c κs = (puts_after c.requires.0 c.remember-kept.ensures, c.left_by-e.ensures.one)
 
-same_length : tie.Need-same-length
+same_length : tie.Need-shape_of-ws-then-remembers
 same_length c = search rules
 
-returns : tie.Need-returns
+returns : tie.Need-returns-then-remembers
 unfolding row_leaves
-returns c = left_remembered c.before.before.before.before.before.before.before.before.before.before.before.before.args.ceiling c.before.before.before.before.before.before.before.before.before.before.before.before.args.ws.now c.before.before.before.before.before.before.before.before.before.before.before.before.args.st c.before.before.before.before.before.before.before.before.before.before.before.before.args.copies c.before.before.before.before.before.before.before.before.before.before.left_by.ensures c.before.before.put_on.new.0 (sym c.before.before.before.before.before.before.before.before.before.remembers.ensures ∙ c.before.before.before.before.before.before.before.before.if1.true) c.before.before.before.before.before.before.remember.ensures.wrote c.before.before.put_on.result c.before.before.put_on.ensures
+returns c = left_remembered c.args.ceiling c.args.ws.now c.args.st c.args.copies c.left_by-e.ensures c.put_on.new.0 (sym c.remembers.ensures ∙ c.if-remembers.true) c.remember-kept.ensures.wrote c.put_on.result c.put_on.ensures
 
-put-on-requires-2 : tie.Need-put-on-requires-2
+put-on-requires-2 : tie.Need-put_on-requires-2
 put-on-requires-2 c κs = search rules
 
-same-length-2 : tie.Need-same-length-2
+same-length-2 : tie.Need-shape_of-ws
 same-length-2 c = search rules
 
-returns-2 : tie.Need-returns-2
+returns-2 : tie.Need-returns
 unfolding row_leaves
-returns-2 c = left_plain c.before.before.before.before.before.before.before.before.args.ceiling c.before.before.before.before.before.before.before.before.args.ws.now c.before.before.before.before.before.before.before.before.args.st c.before.before.before.before.before.before.before.before.args.copies c.before.before.before.before.before.before.left_by.ensures c.before.before.put-on2.new.0 (sym c.before.before.before.before.before.remembers.ensures ∙ c.before.before.before.before.if1.false) c.before.before.put-on2.result c.before.before.put-on2.ensures
+returns-2 c = left_plain c.args.ceiling c.args.ws.now c.args.st c.args.copies c.left_by-e.ensures c.put_on-2.new.0 (sym c.remembers.ensures ∙ c.if-remembers.false) c.put_on-2.result c.put_on-2.ensures
 
 pub leave_spec : {M : Type 1} → statement M
 leave_spec =

@@ -6,29 +6,29 @@ use borrow.Author.Rules.{rules}
 use Rattle.check_perform.proofs.left_by.Statement.{statement}
 use Rattle.check_perform.proofs.left_by.Tie as tie
 
-kind-of-requires : tie.Need-kind-of-requires
+kind-of-requires : tie.Need-kind_of-kind-requires
 kind-of-requires c κs = search rules
 
-own-of-requires : tie.Need-own-of-requires
+own-of-requires : tie.Need-own_of-requires
 own-of-requires c κs = search rules
 
-cast-size : tie.Need-overflow-cast-size
+cast-size : tie.Need-overflow_cast-size
 cast-size c = search rules
 
-add-size : tie.Need-overflow-add-size
-add-size c = omega (arith, c.before.own_of_lem.ensures, own_small c.before.before.before.args.row, c.before.before.before.requires.1)
+add-size : tie.Need-overflow_add-size
+add-size c = omega (arith, c.before.own_of_lem.ensures, own_small c.args.row, c.requires.1)
 
 counts-requires : tie.Need-counts-requires
 counts-requires c κs = search rules
 
-cast-t8 : tie.Need-overflow-cast-t8
+cast-t8 : tie.Need-overflow_cast-result
 cast-t8 c = search rules
 
-returns : tie.Need-returns
-returns c = record { is = λ x. left_counted c.before.before.before.before.before.before.args.row c.before.before.before.before.before.before.args.a c.before.before.before.before.before.kind_of.ensures c.before.before.before.before.own_of_lem.ensures (sym c.before.before.counts.ensures ∙ c.before.if1.true) x; one = omega (arith, c.before.before.before.before.own_of_lem.ensures, own_one c.before.before.before.before.before.before.args.row c.before.before.before.before.before.before.requires.0) }
+returns : tie.Need-returns-then-counts
+returns c = record { is = λ x. left_counted c.args.row c.args.a c.kind_of-kind.ensures c.before.before.before.before.own_of_lem.ensures (sym c.counts.ensures ∙ c.if-counts.true) x; one = omega (arith, c.before.before.before.before.own_of_lem.ensures, own_one c.args.row c.requires.0) }
 
-returns-2 : tie.Need-returns-2
-returns-2 c = record { is = λ x. left_uncounted c.before.before.before.before.before.args.row c.before.before.before.before.before.args.a c.before.before.before.before.kind_of.ensures c.before.before.before.own_of_lem.ensures (sym c.before.counts.ensures ∙ c.if1.false) x; one = omega (arith, c.before.before.before.own_of_lem.ensures, own_one c.before.before.before.before.before.args.row c.before.before.before.before.before.requires.0) }
+returns-2 : tie.Need-returns
+returns-2 c = record { is = λ x. left_uncounted c.args.row c.args.a c.kind_of-kind.ensures c.before.before.before.own_of_lem.ensures (sym c.counts.ensures ∙ c.if-counts.false) x; one = omega (arith, c.before.before.before.own_of_lem.ensures, own_one c.args.row c.requires.0) }
 
 pub left_by_spec : {M : Type 1} → statement M
 left_by_spec =

@@ -5,29 +5,29 @@ use borrow.Author.Rules.{rules}
 use Rattle.check_perform.proofs.put_on.Statement.{statement}
 use Rattle.check_perform.proofs.put_on.Tie as tie
 
-enum_told : tie.Need-enum-told
+enum_told : tie.Need-enum_told-1
 enum_told c = search rules
 
 push-requires : tie.Need-push-requires
 push-requires c κs = search rules
 
-enum-known-copies : tie.Need-enum-known-copies
+enum-known-copies : tie.Need-enum_known-copies
 enum-known-copies c = search rules
 
 copied-requires : tie.Need-copied-requires
 copied-requires c κs = search rules
 
-same_length : tie.Need-same-length
+same_length : tie.Need-shape_of-ws-in-Once
 same_length c = search rules
 
-returns : tie.Need-returns
-returns c = put_once c.before.before.before.before.before.before.before.args.ceiling c.before.before.before.before.before.before.before.args.ws.now c.before.before.push.new.0 c.before.before.before.before.before.before.before.args.st (entry_of c.before.before.before.before.before.before.before.args.e) c.before.before.before.before.enum_told.given.1 c.before.before.push.ensures
+returns : tie.Need-returns-in-Once
+returns c = put_once c.args.ceiling c.args.ws.now c.push.new.0 c.args.st (entry_of c.args.e) c.in-Once.is c.push.ensures
 
-same-length-2 : tie.Need-same-length-2
+same-length-2 : tie.Need-shape_of-ws-in-Times
 same-length-2 c = search rules
 
-returns-2 : tie.Need-returns-2
-returns-2 c = put_times c.before.before.before.before.before.before.before.before.args.ceiling c.before.before.before.before.before.before.before.before.args.ws.now c.before.before.copied.new.0 c.before.before.before.before.before.before.before.before.args.st (entry_of c.before.before.before.before.before.before.before.before.args.e) c.before.before.copied.result c.before.before.before.before.before.copies.given.1 c.before.before.copied.ensures
+returns-2 : tie.Need-returns-in-Times
+returns-2 c = put_times c.args.ceiling c.args.ws.now c.copied.new.0 c.args.st (entry_of c.args.e) c.copied.result c.in-Times.is c.copied.ensures
 
 pub put_on_spec : {M : Type 1} → statement M
 put_on_spec =

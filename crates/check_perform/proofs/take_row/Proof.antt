@@ -11,50 +11,50 @@ use Rattle.check_perform.proofs.RowTakes.{small, small_rows, small_first, small_
 use Rattle.check_perform.proofs.take_row.Statement.{statement}
 use Rattle.check_perform.proofs.take_row.Tie as tie
 
-abbrev invariant-loop : tie.invariant-loop
+abbrev invariant-loop : tie.invariant-loop-j
 invariant-loop ws row left₀ sum₀ rest₀ j₀ left sum rest j = Rowed ws left₀ row left sum j (takes_from rest (10 - j)) × (small rest (10 - j) ≡ true)
 
-abbrev decreases-loop : tie.decreases-loop
+abbrev decreases-loop : tie.decreases-loop-j
 decreases-loop ws row left₀ sum₀ rest₀ j₀ left sum rest j = 10 - j
 
-more : (c : tie.After-decode invariant-loop decreases-loop) → takes_from c.before.before.before.loop.rest (10 - c.before.before.before.loop.j) ≡ take_of c.decode.result ∷ takes_from (c.before.before.before.loop.rest / 32) (10 - (c.before.before.before.loop.j + 1))
-more c = rest_more c.before.before.before.loop.rest c.before.before.before.loop.j (omega arith) c.decode.result c.decode.ensures c.before.if1.false
+more : (c : tie.After-decode-t invariant-loop decreases-loop) → takes_from c.loop-j.rest (10 - c.loop-j.j) ≡ take_of c.decode-t.result ∷ takes_from (c.loop-j.rest / 32) (10 - (c.loop-j.j + 1))
+more c = rest_more c.loop-j.rest c.loop-j.j (omega arith) c.decode-t.result c.decode-t.ensures c.if-c-eq0.false
 
-codes-of-requires : tie.Need-codes-of-requires invariant-loop decreases-loop
-codes-of-requires c κs = c.before.requires.1
+codes-of-requires : tie.Need-codes_of-rest-requires invariant-loop decreases-loop
+codes-of-requires c κs = c.requires.1
 
-loop-holds : tie.Need-loop-init invariant-loop decreases-loop
-loop-holds c = subst (λ (n : ℕ). Rowed c.before.before.args.ws.now c.before.before.args.st c.before.before.args.row c.before.before.args.st (record { size = 0; count = 0; signed = false }) 0 (takes_from n 10) × (small n 10 ≡ true)) (sym c.codes-of.ensures) (row_start c.before.before.args.ws.now c.before.before.args.st c.before.before.args.row (record { size = 0; count = 0; signed = false }) c.before.before.requires.1 c.before.before.requires.0 refl, small_rows c.before.before.args.row c.before.before.requires.1)
+loop-holds : tie.Need-loop-j-init invariant-loop decreases-loop
+loop-holds c = subst (λ (n : ℕ). Rowed c.args.ws.now c.args.st c.args.row c.args.st (record { size = 0; count = 0; signed = false }) 0 (takes_from n 10) × (small n 10 ≡ true)) (sym c.codes_of-rest.ensures) (row_start c.args.ws.now c.args.st c.args.row (record { size = 0; count = 0; signed = false }) c.requires.1 c.requires.0 refl, small_rows c.args.row c.requires.1)
 
-returns : tie.Need-returns invariant-loop decreases-loop
-returns c = row_ended c.before.before.loop.invariant.0 (rest_ended c.before.before.loop.rest c.before.before.loop.j (omega arith) c.if1.true)
+returns : tie.Need-returns-then-c-eq0 invariant-loop decreases-loop
+returns c = row_ended c.loop-j.invariant.0 (rest_ended c.loop-j.rest c.loop-j.j (omega arith) c.if-c-eq0.true)
 
-decode-requires : tie.Need-decode-requires invariant-loop decreases-loop
-decode-requires c κs = let l : c.before.before.loop.rest % 32 ≤ 25 = small_first c.before.before.loop.rest c.before.before.loop.j (omega arith) c.before.before.loop.invariant.1 in omega (arith, c.if1.false)
+decode-requires : tie.Need-decode-t-requires invariant-loop decreases-loop
+decode-requires c κs = let l : c.loop-j.rest % 32 ≤ 25 = small_first c.loop-j.rest c.loop-j.j (omega arith) c.loop-j.invariant.1 in omega (arith, c.if-c-eq0.false)
 
-take-one-requires : tie.Need-take-one-requires invariant-loop decreases-loop
-take-one-requires c κs = row_ready c.before.before.before.loop.invariant.0 (take_of c.decode.result) (more c) c.before.before.before.before.before.before.requires.0
+take-one-requires : tie.Need-take_one-requires invariant-loop decreases-loop
+take-one-requires c κs = row_ready c.loop-j.invariant.0 (take_of c.decode-t.result) (more c) c.requires.0
 
-enum-known-b : tie.Need-enum-known-b invariant-loop decreases-loop
+enum-known-b : tie.Need-enum_known-b invariant-loop decreases-loop
 enum-known-b c = search rules
 
-enum-known-r : tie.Need-enum-known-r invariant-loop decreases-loop
+enum-known-r : tie.Need-enum_known-r invariant-loop decreases-loop
 enum-known-r c = search rules
 
-returns-2 : tie.Need-returns-2 invariant-loop decreases-loop
-returns-2 c = row_fails c.before.before.before.before.before.before.before.loop.invariant.0 (take_of c.before.before.before.before.decode.result) (takes_from (c.before.before.before.before.before.before.before.loop.rest / 32) (10 - (c.before.before.before.before.before.before.before.loop.j + 1))) (more c.before.before.before.before) (takes_refused (take_of c.before.before.before.before.decode.result) c.before.before.before.before.before.before.before.before.before.before.args.ws.now c.before.before.before.before.before.before.before.loop.left c.before.before.before.before.before.before.before.loop.sum c.before.r.given.1 c.before.before.before.take-one.ensures)
+returns-2 : tie.Need-returns-in-Refused invariant-loop decreases-loop
+returns-2 c = row_fails c.loop-j.invariant.0 (take_of c.decode-t.result) (takes_from (c.loop-j.rest / 32) (10 - (c.loop-j.j + 1))) (more c.before.before) (takes_refused (take_of c.decode-t.result) c.args.ws.now c.loop-j.left c.loop-j.sum c.in-Refused.is c.take_one.ensures)
 
-add-j : tie.Need-overflow-add-j invariant-loop decreases-loop
+add-j : tie.Need-overflow_add-j invariant-loop decreases-loop
 add-j c = omega arith
 
-loop-less : tie.Need-loop-smaller invariant-loop decreases-loop
+loop-less : tie.Need-loop-j-smaller invariant-loop decreases-loop
 loop-less c = omega arith
 
-loop-again : tie.Need-loop-preserved invariant-loop decreases-loop
-loop-again c = (row_more c.before.before.before.before.before.before.before.loop.invariant.0 (take_of c.before.before.before.before.decode.result) (takes_from (c.before.before.before.before.before.before.before.loop.rest / 32) (10 - (c.before.before.before.before.before.before.before.loop.j + 1))) (more c.before.before.before.before) (omega arith) (takes_went (take_of c.before.before.before.before.decode.result) c.before.before.before.before.before.before.before.before.before.before.args.ws.now c.before.before.before.before.before.before.before.loop.left c.before.before.before.before.before.before.before.loop.sum c.before.b.given.1 c.before.before.before.take-one.ensures), small_more c.before.before.before.before.before.before.before.loop.rest c.before.before.before.before.before.before.before.loop.j (omega arith) c.before.before.before.before.before.before.before.loop.invariant.1)
+loop-again : tie.Need-loop-j-preserved invariant-loop decreases-loop
+loop-again c = (row_more c.loop-j.invariant.0 (take_of c.decode-t.result) (takes_from (c.loop-j.rest / 32) (10 - (c.loop-j.j + 1))) (more c.before.before) (omega arith) (takes_went (take_of c.decode-t.result) c.args.ws.now c.loop-j.left c.loop-j.sum c.in-Went.is c.take_one.ensures), small_more c.loop-j.rest c.loop-j.j (omega arith) c.loop-j.invariant.1)
 
-returns-3 : tie.Need-returns-3 invariant-loop decreases-loop
-returns-3 c = row_ended c.before.loop.invariant.0 (rest_none c.before.loop.rest c.before.loop.j c.loop-test.false)
+returns-3 : tie.Need-returns invariant-loop decreases-loop
+returns-3 c = row_ended c.loop-j.invariant.0 (rest_none c.loop-j.rest c.loop-j.j c.loop-j-test.false)
 
 pub take_row_spec : {M : Type 1} → statement M
 take_row_spec =

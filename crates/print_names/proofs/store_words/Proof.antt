@@ -40,8 +40,8 @@ loop-less c = omega arith
 loop-again : tie.Need-loop-preserved invariant-loop decreases-loop
 loop-again c =
     let v = c.before.before.before.before.before.before.loop.invariant in
-    let e = c.before.before.Store-word.ensures in
-    let l : length c.before.before.Store-word.new.0 ≡ length c.before.before.before.before.before.before.loop.out = ap length e ∙ simp length-sets in (
+    let e = c.before.before.store_word.ensures in
+    let l : length c.before.before.store_word.new.0 ≡ length c.before.before.before.before.before.before.loop.out = ap length e ∙ simp length-sets in (
       omega arith,
       omega arith,
       l ∙ v.2,

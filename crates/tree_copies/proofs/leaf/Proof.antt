@@ -78,7 +78,7 @@ same_length c = search rules
 
 -- src/lib.rt:44:1
 returns : tie.Need-returns
-returns c = leaf_is _ c.before.before.before.before.before.before.l.given.1 (module_leaf _ _ c.before.before.before.Fixed-number.ensures c.before.before.lone.ensures)
+returns c = leaf_is _ c.before.before.before.before.before.before.l.given.1 (module_leaf _ _ c.before.before.before.fixed_number.ensures c.before.before.lone.ensures)
 
 -- src/lib.rt:44:1
 same-length-2 : tie.Need-same-length-2

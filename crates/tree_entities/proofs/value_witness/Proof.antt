@@ -33,7 +33,7 @@ same_length c = search rules
 
 -- src/lib.rt:59:1
 returns : tie.Need-returns
-returns c = over (value_witness_node _ _ c.before.before.before.Fixed-number.ensures) (taken_place (R.pop_if K.is_type) 3 _ _ c.before.before.before.before.before.before.p.given.1 c.before.before.before.before.before.before.before.before.pop_if.ensures.0) c.before.before.push-over.ensures
+returns c = over (value_witness_node _ _ c.before.before.before.fixed_number.ensures) (taken_place (R.pop_if K.is_type) 3 _ _ c.before.before.before.before.before.before.p.given.1 c.before.before.before.before.before.before.before.before.pop_if.ensures.0) c.before.before.push-over.ensures
 
 -- src/lib.rt:59:1
 same-length-2 : tie.Need-same-length-2

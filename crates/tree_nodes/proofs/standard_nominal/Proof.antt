@@ -31,7 +31,7 @@ same_length c = search rules
 
 -- src/lib.rt:285:1
 returns : tie.Need-returns
-returns c = standard_made _ c.args.name _ _ _ c.nominal_number.ensures c.before.before.before.before.before.Fixed-number.ensures refl c.grow-u.ensures c.grow.ensures
+returns c = standard_made _ c.args.name _ _ _ c.nominal_number.ensures c.fixed_number.ensures refl c.grow-u.ensures c.grow.ensures
 
 pub standard_nominal_spec : {M : Type 1} → statement M
 standard_nominal_spec =

@@ -55,7 +55,7 @@ same_length c = search rules
 
 -- src/lib.rt:97:1
 returns : tie.Need-returns
-returns c = lazy_left c.before.before.before.before.before.before.before.before.before.before.before.before.before.before.before.before.before.before.args.name _ c.before.before.before.before.Fixed-number.ensures (built_at R.conformance 1 4 _ _ c.before.before.before.before.before.before.before.before.before.before.before.c.given.1 c.before.before.before.before.before.before.before.before.before.before.before.before.before.before.before.conformance.ensures) (taken_place (R.pop_if K.is_type) 3 _ _ c.before.before.before.before.before.before.ty.given.1 c.before.before.before.before.before.before.before.before.pop_if.ensures.0) c.before.before.push-new.ensures
+returns c = lazy_left c.before.before.before.before.before.before.before.before.before.before.before.before.before.before.before.before.before.before.args.name _ c.before.before.before.before.fixed_number.ensures (built_at R.conformance 1 4 _ _ c.before.before.before.before.before.before.before.before.before.before.before.c.given.1 c.before.before.before.before.before.before.before.before.before.before.before.before.before.before.before.conformance.ensures) (taken_place (R.pop_if K.is_type) 3 _ _ c.before.before.before.before.before.before.ty.given.1 c.before.before.before.before.before.before.before.before.pop_if.ensures.0) c.before.before.push-new.ensures
 
 -- src/lib.rt:97:1
 same-length-2 : tie.Need-same-length-2

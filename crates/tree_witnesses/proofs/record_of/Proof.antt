@@ -35,7 +35,7 @@ same_length c = search rules
 
 -- src/lib.rt:75:1
 returns : tie.Need-returns
-returns c = recorded (R.about (Enums.about c.before.before.before.before.before.before.before.before.before.before.before.before.before.args.what)) (λ s. bytes (s c.before.before.before.before.before.before.before.before.before.before.before.before.before.args.name)) _ _ _ (built_at (R.about (Enums.about c.before.before.before.before.before.before.before.before.before.before.before.before.before.args.what)) 1 1 _ _ c.before.before.before.before.before.before.p.given.1 c.before.before.before.before.before.before.before.before.before.before.about.ensures) (λ nm i. fixed_words (c.before.before.before.Fixed-number.ensures nm i)) c.before.before.push-record.ensures
+returns c = recorded (R.about (Enums.about c.before.before.before.before.before.before.before.before.before.before.before.before.before.args.what)) (λ s. bytes (s c.before.before.before.before.before.before.before.before.before.before.before.before.before.args.name)) _ _ _ (built_at (R.about (Enums.about c.before.before.before.before.before.before.before.before.before.before.before.before.before.args.what)) 1 1 _ _ c.before.before.before.before.before.before.p.given.1 c.before.before.before.before.before.before.before.before.before.before.about.ensures) (λ nm i. fixed_words (c.before.before.before.fixed_number.ensures nm i)) c.before.before.push-record.ensures
 
 -- src/lib.rt:75:1
 same-length-2 : tie.Need-same-length-2

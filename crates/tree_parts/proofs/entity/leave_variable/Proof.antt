@@ -45,7 +45,7 @@ same-length-2 c = search rules
 
 -- src/lib.rt:323:1
 returns-2 : tie.Need-returns-2
-returns-2 c = leaves_accessor c.before.before.before.before.before.before.before.before.before.before.before.before.before.requires.0 _ _ _ c.before.before.before.before.before.before.before.before.before.before.accessor.given.1 c.before.before.before.Fixed-number.ensures c.before.before.before.before.before.before.before.entity.ensures c.before.before.push-over.ensures
+returns-2 c = leaves_accessor c.before.before.before.before.before.before.before.before.before.before.before.before.before.requires.0 _ _ _ c.before.before.before.before.before.before.before.before.before.before.accessor.given.1 c.before.before.before.fixed_number.ensures c.before.before.before.before.before.before.before.entity.ensures c.before.before.push-over.ensures
 
 -- src/lib.rt:323:1
 returns-3 : tie.Need-returns-3
