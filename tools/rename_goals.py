@@ -20,14 +20,14 @@ def norm(name):
     return re.sub("-+", "-", name.replace("_", "-"))
 
 
-def lent_to(callee):
-    """The names of the slices that a function of this repository is lent to write."""
+def lent_to(callee, form=r"&mut \["):
+    """The names of the parameters of that form of a function of this repository."""
     parts = callee.split("::")
     for path in glob.glob(f"{CRATES}/{parts[0]}/src/**/*.rt", recursive=True):
         with open(path, encoding="utf-8") as f:
             m = re.search(r"\bfn " + re.escape(parts[-1]) + r"(?:<[^>]*>)?\((.*?)\)\s*(?:->|\n|\{)", f.read(), re.S)
         if m:
-            return re.findall(r"(\w+): &mut \[", m.group(1))
+            return re.findall(r"(\w+): " + form, m.group(1))
     return []
 
 
@@ -105,7 +105,7 @@ class Names:
             callee = self.callees[at]
             if self.level(seek) and not self.inner(seek):
                 final = at
-            if step[0] and norm(step[0]) == norm(fields[0]):
+            if step[0] and norm(step[0]) in (norm(fields[0]), norm(fields[0].replace("_lem", ""))):
                 rest = fields[1:]
                 if self.arms[at] and final is not None and self.arms[final][0] == self.arms[at][0]:
                     best = None
@@ -123,6 +123,10 @@ class Names:
                     lent = lent_to(callee)
                     if int(rest[1]) < len(lent):
                         rest = ["auto", lent[int(rest[1])]] + rest[2:]
+                if len(rest) > 1 and rest[0] == "new" and rest[1].isdigit() and callee:
+                    lent = lent_to(callee, "&")
+                    if int(rest[1]) < len(lent):
+                        rest = ["new", lent[int(rest[1])]] + rest[2:]
                 return [step[1]] + rest
             seek = parent
         return None

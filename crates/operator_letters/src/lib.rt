@@ -1,5 +1,6 @@
 // Reads the letters and operands of one operator.
 #![tactic(auto)]
+
 ghost use Rattle.std.specs.Prelude.{◌≡◌, false, ◌+◌, ◌≤◌, ◌<◌, length, get_or, drop};
 ghost use Rattle.definition.specs.Operators as Op;
 ghost use Rattle.definition.specs.Enums as Enums;

@@ -1,6 +1,7 @@
 // The leaves of the printer: fixed texts, numbers, the names of generic parameters, and names given
 // by their numbers.
 #![tactic(auto)]
+
 ghost use Rattle.std.specs.Prelude.{◌≡◌, ◌+◌, ◌*◌, ◌≤◌, ◌<◌, ◌∷◌, [], length, drop};
 ghost use Rattle.std.proofs.lemmas.List.Edits.{sets};
 ghost use Rattle.definition.specs.Base.{Name, bytes, same};

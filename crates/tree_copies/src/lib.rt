@@ -1,5 +1,6 @@
 // Leaves, and copies of a node, each charged its size: `S`, `Sg` and the letters of `A`.
 #![tactic(auto)]
+
 ghost use Rattle.std.specs.Prelude.{◌≡◌, List, [], ◌∷◌, ℕ, ◌+◌, ◌*◌, ◌^◌, ◌≤◌, ◌<◌};
 ghost use Rattle.definition.specs.Enums as Enums;
 ghost use Rattle.definition.specs.Perform as R;

@@ -1,6 +1,7 @@
 // What is left at the end of the reading's run: the one tree of a whole run, and the entries that a
 // stopped run writes.
 #![tactic(auto)]
+
 ghost use Rattle.std.specs.Prelude.{map, reverse};
 ghost use Rattle.definition.specs.Calls as Calls;
 ghost use Rattle.definition.specs.Node.{entry_of};

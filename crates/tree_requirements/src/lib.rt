@@ -1,5 +1,6 @@
 // The requirements of a generic signature.
 #![tactic(auto)]
+
 ghost use Rattle.std.specs.Prelude.{[], ◌∷◌, ◌+◌};
 ghost use Rattle.definition.specs.Enums as E;
 ghost use Rattle.definition.specs.declared.Constraint.TheVariants as Constraint;

@@ -1,6 +1,7 @@
 // The effects of the operators of records and witnesses on the records: the functions of the Rust
 // under their names.
 #![tactic(auto)]
+
 ghost use Rattle.std.specs.Prelude.{◌+◌};
 ghost use Rattle.definition.specs.Base.{bytes};
 ghost use Rattle.definition.specs.Enums as Enums;

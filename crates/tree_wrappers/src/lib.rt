@@ -1,5 +1,6 @@
 // Operators that put one node over the one on top.
 #![tactic(auto)]
+
 ghost use Rattle.std.specs.Prelude.{◌+◌, eqb};
 ghost use Rattle.definition.specs.Kind as K;
 ghost use Rattle.definition.specs.Node as Node;

@@ -9,53 +9,53 @@ use Rattle.operator_letters.proofs.OperandSteps.{accessor_is}
 use Rattle.operator_letters.proofs.accessor_of.Statement.{statement}
 use Rattle.operator_letters.proofs.accessor_of.Tie as tie
 
-returns : tie.Need-returns
+returns : tie.Need-returns-in-112
 unfolding opened₀ Enums.operator fixed fixed_names
-returns c = accessor_is c.before.args.b (letter accessors c.match.keys1 refl)
+returns c = accessor_is c.args.b (letter accessors c.in-112.is refl)
 
-returns-2 : tie.Need-returns-2
+returns-2 : tie.Need-returns-in-103
 unfolding opened₀ Enums.operator fixed fixed_names
-returns-2 c = accessor_is c.before.args.b (letter accessors c.match.keys2 refl)
+returns-2 c = accessor_is c.args.b (letter accessors c.in-103.is refl)
 
-returns-3 : tie.Need-returns-3
+returns-3 : tie.Need-returns-in-115
 unfolding opened₀ Enums.operator fixed fixed_names
-returns-3 c = accessor_is c.before.args.b (letter accessors c.match.keys3 refl)
+returns-3 c = accessor_is c.args.b (letter accessors c.in-115.is refl)
 
-returns-4 : tie.Need-returns-4
+returns-4 : tie.Need-returns-in-77
 unfolding opened₀ Enums.operator fixed fixed_names
-returns-4 c = accessor_is c.before.args.b (letter accessors c.match.keys4 refl)
+returns-4 c = accessor_is c.args.b (letter accessors c.in-77.is refl)
 
-returns-5 : tie.Need-returns-5
+returns-5 : tie.Need-returns-in-114
 unfolding opened₀ Enums.operator fixed fixed_names
-returns-5 c = accessor_is c.before.args.b (letter accessors c.match.keys5 refl)
+returns-5 c = accessor_is c.args.b (letter accessors c.in-114.is refl)
 
-returns-6 : tie.Need-returns-6
+returns-6 : tie.Need-returns-in-109
 unfolding opened₀ Enums.operator fixed fixed_names
-returns-6 c = accessor_is c.before.args.b (letter accessors c.match.keys6 refl)
+returns-6 c = accessor_is c.args.b (letter accessors c.in-109.is refl)
 
-returns-7 : tie.Need-returns-7
+returns-7 : tie.Need-returns-in-119
 unfolding opened₀ Enums.operator fixed fixed_names
-returns-7 c = accessor_is c.before.args.b (letter accessors c.match.keys7 refl)
+returns-7 c = accessor_is c.args.b (letter accessors c.in-119.is refl)
 
-returns-8 : tie.Need-returns-8
+returns-8 : tie.Need-returns-in-87
 unfolding opened₀ Enums.operator fixed fixed_names
-returns-8 c = accessor_is c.before.args.b (letter accessors c.match.keys8 refl)
+returns-8 c = accessor_is c.args.b (letter accessors c.in-87.is refl)
 
-returns-9 : tie.Need-returns-9
+returns-9 : tie.Need-returns-in-71
 unfolding opened₀ Enums.operator fixed fixed_names
-returns-9 c = accessor_is c.before.args.b (letter accessors c.match.keys9 refl)
+returns-9 c = accessor_is c.args.b (letter accessors c.in-71.is refl)
 
-returns-10 : tie.Need-returns-10
+returns-10 : tie.Need-returns-in-97
 unfolding opened₀ Enums.operator fixed fixed_names
-returns-10 c = accessor_is c.before.args.b (letter accessors c.match.keys10 refl)
+returns-10 c = accessor_is c.args.b (letter accessors c.in-97.is refl)
 
-returns-11 : tie.Need-returns-11
+returns-11 : tie.Need-returns-in-108
 unfolding opened₀ Enums.operator fixed fixed_names
-returns-11 c = accessor_is c.before.args.b (letter accessors c.match.keys11 refl)
+returns-11 c = accessor_is c.args.b (letter accessors c.in-108.is refl)
 
-returns-12 : tie.Need-returns-12
+returns-12 : tie.Need-returns-in_default
 unfolding opened₀ Enums.operator
-returns-12 c = accessor_is c.before.args.b (past c.before.args.b accessors c.match.rest)
+returns-12 c = accessor_is c.args.b (past c.args.b accessors c.in_default.in_default-own.rest)
 
 pub accessor_of_spec : {M : Type 1} → statement M
 accessor_of_spec =

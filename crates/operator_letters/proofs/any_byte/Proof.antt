@@ -14,21 +14,25 @@ use Rattle.operator_letters.proofs.any_byte.Tie as tie
 next-requires : tie.Need-next-requires
 next-requires c κs = search rules
 
-enum-known-next : tie.Need-enum-known-next
+enum-known-next : tie.Need-enum_known-next
 enum-known-next c = search rules
 
-enum-known-f : tie.Need-enum-known-f
+enum-known-f : tie.Need-enum_known-f
 enum-known-f c = search rules
 
-returns : tie.Need-returns
+returns : tie.Need-returns-in-Read
 unfolding Enums.operator
 returns c =
-    let g = byte_read c.before.before.before.before.before.args.text.now c.before.before.before.before.before.args.c.at c.before.next2.given.1 c.before.before.before.next.ensures in
+    let g = byte_read c.args.text.now c.args.c.at c.in-Read.is c.next.ensures in
     record { is = then_ok (λ (b : ℕ) (u : Text). ok metatype u) g.is; inside = g.inside; onward = omega arith }
 
-returns-2 : tie.Need-returns-2
+returns-2 : tie.Need-returns-in-Refused
 unfolding Enums.operator
-returns-2 c = then_refused (λ (b : ℕ) (u : Text). ok metatype u) (byte_refused c.before.before.before.before.before.args.text.now c.before.before.before.before.before.args.c.at c.before.f.given.1 c.before.before.before.next.ensures)
+returns-2 c = then_refused (λ (b : ℕ) (u : Text). ok metatype u) (byte_refused c.args.text.now c.args.c.at c.in-Refused.is c.next.ensures)
 
 pub any_byte_spec : {M : Type 1} → statement M
-any_byte_spec = tie.close (tie.spec next-requires enum-known-next enum-known-f returns returns-2)
+any_byte_spec = tie.close (tie.spec next-requires
+    enum-known-next
+    enum-known-f
+    returns
+    returns-2)

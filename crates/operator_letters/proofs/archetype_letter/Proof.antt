@@ -10,25 +10,25 @@ use native.Mathlib.Omega.{arith}
 use Rattle.operator_letters.proofs.archetype_letter.Statement.{statement}
 use Rattle.operator_letters.proofs.archetype_letter.Tie as tie
 
-returns : tie.Need-returns
+returns : tie.Need-returns-then-b-eq122
 unfolding opened₀ Enums.operator
-returns c = record { is = archetype_is (drop c.before.before.args.c.at c.before.before.args.text.now) c.if1.true; inside = c.before.before.requires; onward = omega arith }
+returns c = record { is = archetype_is (drop c.args.c.at c.args.text.now) c.if-b-eq122.true; inside = c.requires; onward = omega arith }
 
-archetype-index-requires : tie.Need-archetype-index-requires
+archetype-index-requires : tie.Need-archetype_index-requires
 archetype-index-requires c κs = search rules
 
-returns-2 : tie.Need-returns-2
-returns-2 c = operated_is c.before.before.before.before.args.text.now (archetype_is (drop c.before.before.before.before.args.c.at c.before.before.before.before.args.text.now) c.before.if2.true) (le_refl _) c.archetype-index.result c.archetype-index.ensures
+returns-2 : tie.Need-returns-then-b-eq121
+returns-2 c = operated_is c.args.text.now (archetype_is (drop c.args.c.at c.args.text.now) c.if-b-eq121.true) (le_refl _) c.archetype_index.result c.archetype_index.ensures
 
-archetype-deep-requires : tie.Need-archetype-deep-requires
+archetype-deep-requires : tie.Need-archetype_deep-requires
 archetype-deep-requires c κs = search rules
 
-returns-3 : tie.Need-returns-3
-returns-3 c = operated_is c.before.before.before.before.before.args.text.now (archetype_is (drop c.before.before.before.before.before.args.c.at c.before.before.before.before.before.args.text.now) c.before.if3.true) (le_refl _) c.archetype-deep.result c.archetype-deep.ensures
+returns-3 : tie.Need-returns-then-b-eq100
+returns-3 c = operated_is c.args.text.now (archetype_is (drop c.args.c.at c.args.text.now) c.if-b-eq100.true) (le_refl _) c.archetype_deep.result c.archetype_deep.ensures
 
-returns-4 : tie.Need-returns-4
+returns-4 : tie.Need-returns
 unfolding Enums.number
-returns-4 c = archetype_none c.before.before.before.before.args.b (drop c.before.before.before.before.args.c.at c.before.before.before.before.args.text.now) c.before.before.if1.false c.before.if2.false c.if3.false
+returns-4 c = archetype_none c.args.b (drop c.args.c.at c.args.text.now) c.if-b-eq122.false c.if-b-eq121.false c.if-b-eq100.false
 
 pub archetype_letter_spec : {M : Type 1} → statement M
 archetype_letter_spec =

@@ -9,23 +9,27 @@ use borrow.Author.Rules.{rules}
 use Rattle.operator_letters.proofs.async_type.Statement.{statement}
 use Rattle.operator_letters.proofs.async_type.Tie as tie
 
-add-t8 : tie.Need-overflow-add-t8
+add-t8 : tie.Need-overflow_add-next
 add-t8 c = search rules
 
-shared-slice-read-match : tie.Need-shared-slice-read-match
+shared-slice-read-match : tie.Need-bounds-text-at
 shared-slice-read-match c = search rules
 
-returns : tie.Need-returns
+returns : tie.Need-returns-in_default
 unfolding opened₀ Enums.number
-returns c = no_choice async_types (behind c.before.before.before.args.text.now c.before.before.before.args.c.at c.before.before.if1.true) c.match.rest
+returns c = no_choice async_types (behind c.args.text.now c.args.c.at c.if-at-text.true) c.in_default.in_default-own.rest
 
-returns-2 : tie.Need-returns-2
+returns-2 : tie.Need-returns-then-at-text
 unfolding opened₀ Enums.operator Enums.leaf Enums.about Enums.nominal_kind fixed fixed_names
-returns-2 c = chosen async_types (behind c.before.before.before.args.text.now c.before.before.before.args.c.at c.before.before.if1.true) c.match.keys1 refl
+returns-2 c = chosen async_types (behind c.args.text.now c.args.c.at c.if-at-text.true) c.in-97.is refl
 
-returns-3 : tie.Need-returns-3
+returns-3 : tie.Need-returns
 unfolding Enums.number
-returns-3 c = choose_ended c.before.args.text.now c.before.args.c.at c.if1.false async_types
+returns-3 c = choose_ended c.args.text.now c.args.c.at c.if-at-text.false async_types
 
 pub async_type_spec : {M : Type 1} → statement M
-async_type_spec = tie.close (tie.spec add-t8 shared-slice-read-match returns returns-2 returns-3)
+async_type_spec = tie.close (tie.spec add-t8
+    shared-slice-read-match
+    returns
+    returns-2
+    returns-3)

@@ -9,33 +9,39 @@ use borrow.Author.Rules.{rules}
 use Rattle.operator_letters.proofs.context_descriptor.Statement.{statement}
 use Rattle.operator_letters.proofs.context_descriptor.Tie as tie
 
-add-t8 : tie.Need-overflow-add-t8
+add-t8 : tie.Need-overflow_add-next
 add-t8 c = search rules
 
-shared-slice-read-match : tie.Need-shared-slice-read-match
+shared-slice-read-match : tie.Need-bounds-text-at
 shared-slice-read-match c = search rules
 
-returns : tie.Need-returns
+returns : tie.Need-returns-in_default
 unfolding opened₀ Enums.number
-returns c = no_choice context_descriptors (behind c.before.before.before.args.text.now c.before.before.before.args.c.at c.before.before.if1.true) c.match.rest
+returns c = no_choice context_descriptors (behind c.args.text.now c.args.c.at c.if-at-text.true) c.in_default.in_default-own.rest
 
-returns-2 : tie.Need-returns-2
+returns-2 : tie.Need-returns-in-77
 unfolding opened₀ Enums.operator Enums.leaf Enums.about Enums.nominal_kind fixed fixed_names
-returns-2 c = chosen context_descriptors (behind c.before.before.before.args.text.now c.before.before.before.args.c.at c.before.before.if1.true) c.match.keys1 refl
+returns-2 c = chosen context_descriptors (behind c.args.text.now c.args.c.at c.if-at-text.true) c.in-77.is refl
 
-returns-3 : tie.Need-returns-3
+returns-3 : tie.Need-returns-in-69
 unfolding opened₀ Enums.operator Enums.leaf Enums.about Enums.nominal_kind fixed fixed_names
-returns-3 c = chosen context_descriptors (behind c.before.before.before.args.text.now c.before.before.before.args.c.at c.before.before.if1.true) c.match.keys2 refl
+returns-3 c = chosen context_descriptors (behind c.args.text.now c.args.c.at c.if-at-text.true) c.in-69.is refl
 
-returns-4 : tie.Need-returns-4
+returns-4 : tie.Need-returns-in-88
 unfolding opened₀ Enums.operator Enums.leaf Enums.about Enums.nominal_kind fixed fixed_names
-returns-4 c = chosen context_descriptors (behind c.before.before.before.args.text.now c.before.before.before.args.c.at c.before.before.if1.true) c.match.keys3 refl
+returns-4 c = chosen context_descriptors (behind c.args.text.now c.args.c.at c.if-at-text.true) c.in-88.is refl
 
-returns-5 : tie.Need-returns-5
+returns-5 : tie.Need-returns
 unfolding Enums.number
-returns-5 c = choose_ended c.before.args.text.now c.before.args.c.at c.if1.false context_descriptors
+returns-5 c = choose_ended c.args.text.now c.args.c.at c.if-at-text.false context_descriptors
 
 pub context_descriptor_spec : {M : Type 1} → statement M
 context_descriptor_spec =
     tie.close
-    (tie.spec add-t8 shared-slice-read-match returns returns-2 returns-3 returns-4 returns-5)
+    (tie.spec add-t8
+    shared-slice-read-match
+    returns
+    returns-2
+    returns-3
+    returns-4
+    returns-5)

@@ -9,28 +9,33 @@ use borrow.Author.Rules.{rules}
 use Rattle.operator_letters.proofs.field_offset.Statement.{statement}
 use Rattle.operator_letters.proofs.field_offset.Tie as tie
 
-add-t8 : tie.Need-overflow-add-t8
+add-t8 : tie.Need-overflow_add-next
 add-t8 c = search rules
 
-shared-slice-read-match : tie.Need-shared-slice-read-match
+shared-slice-read-match : tie.Need-bounds-text-at
 shared-slice-read-match c = search rules
 
-returns : tie.Need-returns
+returns : tie.Need-returns-in_default
 unfolding opened₀ Enums.number
-returns c = no_choice field_offsets (behind c.before.before.before.args.text.now c.before.before.before.args.c.at c.before.before.if1.true) c.match.rest
+returns c = no_choice field_offsets (behind c.args.text.now c.args.c.at c.if-at-text.true) c.in_default.in_default-own.rest
 
-returns-2 : tie.Need-returns-2
+returns-2 : tie.Need-returns-in-100
 unfolding opened₀ Enums.operator Enums.leaf Enums.about Enums.nominal_kind fixed fixed_names
-returns-2 c = chosen field_offsets (behind c.before.before.before.args.text.now c.before.before.before.args.c.at c.before.before.if1.true) c.match.keys1 refl
+returns-2 c = chosen field_offsets (behind c.args.text.now c.args.c.at c.if-at-text.true) c.in-100.is refl
 
-returns-3 : tie.Need-returns-3
+returns-3 : tie.Need-returns-in-105
 unfolding opened₀ Enums.operator Enums.leaf Enums.about Enums.nominal_kind fixed fixed_names
-returns-3 c = chosen field_offsets (behind c.before.before.before.args.text.now c.before.before.before.args.c.at c.before.before.if1.true) c.match.keys2 refl
+returns-3 c = chosen field_offsets (behind c.args.text.now c.args.c.at c.if-at-text.true) c.in-105.is refl
 
-returns-4 : tie.Need-returns-4
+returns-4 : tie.Need-returns
 unfolding Enums.number
-returns-4 c = choose_ended c.before.args.text.now c.before.args.c.at c.if1.false field_offsets
+returns-4 c = choose_ended c.args.text.now c.args.c.at c.if-at-text.false field_offsets
 
 pub field_offset_spec : {M : Type 1} → statement M
 field_offset_spec =
-    tie.close (tie.spec add-t8 shared-slice-read-match returns returns-2 returns-3 returns-4)
+    tie.close (tie.spec add-t8
+    shared-slice-read-match
+    returns
+    returns-2
+    returns-3
+    returns-4)

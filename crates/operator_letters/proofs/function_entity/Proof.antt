@@ -9,47 +9,47 @@ use borrow.Author.Rules.{rules}
 use Rattle.operator_letters.proofs.function_entity.Statement.{statement}
 use Rattle.operator_letters.proofs.function_entity.Tie as tie
 
-add-t8 : tie.Need-overflow-add-t8
+add-t8 : tie.Need-overflow_add-next
 add-t8 c = search rules
 
-shared-slice-read-match : tie.Need-shared-slice-read-match
+shared-slice-read-match : tie.Need-bounds-text-at
 shared-slice-read-match c = search rules
 
-returns : tie.Need-returns
+returns : tie.Need-returns-in_default
 unfolding opened₀ Enums.number
-returns c = no_choice function_entities (behind c.before.before.before.args.text.now c.before.before.before.args.c.at c.before.before.if1.true) c.match.rest
+returns c = no_choice function_entities (behind c.args.text.now c.args.c.at c.if-at-text.true) c.in_default.in_default-own.rest
 
-returns-2 : tie.Need-returns-2
+returns-2 : tie.Need-returns-in-67
 unfolding opened₀ Enums.operator Enums.leaf Enums.about Enums.nominal_kind fixed fixed_names
-returns-2 c = chosen function_entities (behind c.before.before.before.args.text.now c.before.before.before.args.c.at c.before.before.if1.true) c.match.keys1 refl
+returns-2 c = chosen function_entities (behind c.args.text.now c.args.c.at c.if-at-text.true) c.in-67.is refl
 
-returns-3 : tie.Need-returns-3
+returns-3 : tie.Need-returns-in-99
 unfolding opened₀ Enums.operator Enums.leaf Enums.about Enums.nominal_kind fixed fixed_names
-returns-3 c = chosen function_entities (behind c.before.before.before.args.text.now c.before.before.before.args.c.at c.before.before.if1.true) c.match.keys2 refl
+returns-3 c = chosen function_entities (behind c.args.text.now c.args.c.at c.if-at-text.true) c.in-99.is refl
 
-returns-4 : tie.Need-returns-4
+returns-4 : tie.Need-returns-in-68
 unfolding opened₀ Enums.operator Enums.leaf Enums.about Enums.nominal_kind fixed fixed_names
-returns-4 c = chosen function_entities (behind c.before.before.before.args.text.now c.before.before.before.args.c.at c.before.before.if1.true) c.match.keys3 refl
+returns-4 c = chosen function_entities (behind c.args.text.now c.args.c.at c.if-at-text.true) c.in-68.is refl
 
-returns-5 : tie.Need-returns-5
+returns-5 : tie.Need-returns-in-100
 unfolding opened₀ Enums.operator Enums.leaf Enums.about Enums.nominal_kind fixed fixed_names
-returns-5 c = chosen function_entities (behind c.before.before.before.args.text.now c.before.before.before.args.c.at c.before.before.if1.true) c.match.keys4 refl
+returns-5 c = chosen function_entities (behind c.args.text.now c.args.c.at c.if-at-text.true) c.in-100.is refl
 
-returns-6 : tie.Need-returns-6
+returns-6 : tie.Need-returns-in-105
 unfolding opened₀ Enums.operator Enums.leaf Enums.about Enums.nominal_kind fixed fixed_names
-returns-6 c = chosen function_entities (behind c.before.before.before.args.text.now c.before.before.before.args.c.at c.before.before.if1.true) c.match.keys5 refl
+returns-6 c = chosen function_entities (behind c.args.text.now c.args.c.at c.if-at-text.true) c.in-105.is refl
 
-returns-7 : tie.Need-returns-7
+returns-7 : tie.Need-returns-in-101
 unfolding opened₀ Enums.operator Enums.leaf Enums.about Enums.nominal_kind fixed fixed_names
-returns-7 c = chosen function_entities (behind c.before.before.before.args.text.now c.before.before.before.args.c.at c.before.before.if1.true) c.match.keys6 refl
+returns-7 c = chosen function_entities (behind c.args.text.now c.args.c.at c.if-at-text.true) c.in-101.is refl
 
-returns-8 : tie.Need-returns-8
+returns-8 : tie.Need-returns-in-69
 unfolding opened₀ Enums.operator Enums.leaf Enums.about Enums.nominal_kind fixed fixed_names
-returns-8 c = chosen function_entities (behind c.before.before.before.args.text.now c.before.before.before.args.c.at c.before.before.if1.true) c.match.keys7 refl
+returns-8 c = chosen function_entities (behind c.args.text.now c.args.c.at c.if-at-text.true) c.in-69.is refl
 
-returns-9 : tie.Need-returns-9
+returns-9 : tie.Need-returns
 unfolding Enums.number
-returns-9 c = choose_ended c.before.args.text.now c.before.args.c.at c.if1.false function_entities
+returns-9 c = choose_ended c.args.text.now c.args.c.at c.if-at-text.false function_entities
 
 pub function_entity_spec : {M : Type 1} → statement M
 function_entity_spec =

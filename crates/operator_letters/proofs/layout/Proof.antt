@@ -13,27 +13,32 @@ use native.Mathlib.Omega.{arith}
 use Rattle.operator_letters.proofs.layout.Statement.{statement}
 use Rattle.operator_letters.proofs.layout.Tie as tie
 
-shared-slice-read-if2 : tie.Need-shared-slice-read-if2
+shared-slice-read-if2 : tie.Need-bounds-text-at
 shared-slice-read-if2 c = search rules
 
-add-t12 : tie.Need-overflow-add-t12
+add-t12 : tie.Need-overflow_add-result
 add-t12 c = search rules
 
-returns : tie.Need-returns
+returns : tie.Need-returns-then-text-at-eq67
 unfolding Enums.operator Enums.constraint
-returns c = record { is = then_ok (λ (l : Late Done) (u : Text). ok (requirement (Enums.subject c.before.before.before.args.s) (layout l)) u) (late_read c.before.before.before.args.text.now c.before.before.before.args.c.at layouts c.before.before.if1.true) ∙ ap (λ (l : Late Done). ok (requirement (Enums.subject c.before.before.before.args.s) (layout l)) (drop (c.before.before.before.args.c.at + 1) c.before.before.before.args.text.now)) (layout_good c.if2.true); inside = omega arith; onward = omega arith }
+returns c = record { is = then_ok (λ (l : Late Done) (u : Text). ok (requirement (Enums.subject c.args.s) (layout l)) u) (late_read c.args.text.now c.args.c.at layouts c.if-at-text.true) ∙ ap (λ (l : Late Done). ok (requirement (Enums.subject c.args.s) (layout l)) (drop (c.args.c.at + 1) c.args.text.now)) (layout_good c.if-text-at-eq67.true); inside = omega arith; onward = omega arith }
 
-add-t16 : tie.Need-overflow-add-t16
+add-t16 : tie.Need-overflow_add-result-then-at-text
 add-t16 c = search rules
 
-returns-2 : tie.Need-returns-2
+returns-2 : tie.Need-returns-then-at-text
 unfolding Enums.operator Enums.constraint
-returns-2 c = record { is = then_ok (λ (l : Late Done) (u : Text). ok (requirement (Enums.subject c.before.before.before.args.s) (layout l)) u) (late_read c.before.before.before.args.text.now c.before.before.before.args.c.at layouts c.before.before.if1.true) ∙ ap (λ (l : Late Done). ok (requirement (Enums.subject c.before.before.before.args.s) (layout l)) (drop (c.before.before.before.args.c.at + 1) c.before.before.before.args.text.now)) (layout_bad (get_or c.before.before.before.args.text.now c.before.before.before.args.c.at 0) c.if2.false); inside = omega arith; onward = omega arith }
+returns-2 c = record { is = then_ok (λ (l : Late Done) (u : Text). ok (requirement (Enums.subject c.args.s) (layout l)) u) (late_read c.args.text.now c.args.c.at layouts c.if-at-text.true) ∙ ap (λ (l : Late Done). ok (requirement (Enums.subject c.args.s) (layout l)) (drop (c.args.c.at + 1) c.args.text.now)) (layout_bad (get_or c.args.text.now c.args.c.at 0) c.if-text-at-eq67.false); inside = omega arith; onward = omega arith }
 
-returns-3 : tie.Need-returns-3
+returns-3 : tie.Need-returns
 unfolding Enums.operator Enums.constraint
-returns-3 c = record { is = then_ok (λ (l : Late Done) (u : Text). ok (requirement (Enums.subject c.before.args.s) (layout l)) u) (late_none c.before.args.text.now c.before.args.c.at layouts c.if1.false); inside = c.before.requires; onward = omega arith }
+returns-3 c = record { is = then_ok (λ (l : Late Done) (u : Text). ok (requirement (Enums.subject c.args.s) (layout l)) u) (late_none c.args.text.now c.args.c.at layouts c.if-at-text.false); inside = c.requires; onward = omega arith }
 
 pub layout_spec : {M : Type 1} → statement M
 layout_spec =
-    tie.close (tie.spec shared-slice-read-if2 add-t12 returns add-t16 returns-2 returns-3)
+    tie.close (tie.spec shared-slice-read-if2
+    add-t12
+    returns
+    add-t16
+    returns-2
+    returns-3)

@@ -10,25 +10,29 @@ use native.Mathlib.Omega.{arith}
 use Rattle.operator_letters.proofs.on_member.Statement.{statement}
 use Rattle.operator_letters.proofs.on_member.Tie as tie
 
-generic-param-index-requires : tie.Need-generic-param-index-requires
+generic-param-index-requires : tie.Need-generic_param_index-requires
 generic-param-index-requires c κs = search rules
 
-enum-known-p : tie.Need-enum-known-p
+enum-known-p : tie.Need-enum_known-p
 enum-known-p c = search rules
 
-enum-known-f : tie.Need-enum-known-f
+enum-known-f : tie.Need-enum_known-f
 enum-known-f c = search rules
 
-returns : tie.Need-returns
+returns : tie.Need-returns-in-Read
 unfolding on_member Enums.subject
 returns c =
-    let g = param_read c.before.before.before.before.before.args.text.now c.before.before.before.before.before.args.c.at c.before.p.given.1 c.before.before.before.generic_param_index.ensures in
+    let g = param_read c.args.text.now c.args.c.at c.in-Read.is c.generic_param_index.ensures in
     record { is = then_ok (λ (p : Param) (u : Text). ok (of_member p) u) g.is; inside = g.inside; onward = omega arith }
 
-returns-2 : tie.Need-returns-2
+returns-2 : tie.Need-returns-in-Refused
 unfolding on_member Enums.subject
-returns-2 c = then_refused (λ (p : Param) (u : Text). ok (of_member p) u) (param_refused c.before.before.before.before.before.args.text.now c.before.before.before.before.before.args.c.at c.before.f.given.1 c.before.before.before.generic_param_index.ensures)
+returns-2 c = then_refused (λ (p : Param) (u : Text). ok (of_member p) u) (param_refused c.args.text.now c.args.c.at c.in-Refused.is c.generic_param_index.ensures)
 
 pub on_member_spec : {M : Type 1} → statement M
 on_member_spec =
-    tie.close (tie.spec generic-param-index-requires enum-known-p enum-known-f returns returns-2)
+    tie.close (tie.spec generic-param-index-requires
+    enum-known-p
+    enum-known-f
+    returns
+    returns-2)

@@ -13,115 +13,115 @@ use borrow.Author.Rules.{rules}
 use Rattle.operator_letters.proofs.requirement.Statement.{statement}
 use Rattle.operator_letters.proofs.requirement.Tie as tie
 
-add-t7 : tie.Need-overflow-add-t7
+add-t7 : tie.Need-overflow_add-next
 add-t7 c = search rules
 
-shared-slice-read-match : tie.Need-shared-slice-read-match
+shared-slice-read-match : tie.Need-bounds-text-at
 shared-slice-read-match c = search rules
 
 requiring-requires : tie.Need-requiring-requires
 requiring-requires c κs = search rules
 
-requiring-requires-2 : tie.Need-requiring-requires-2
+requiring-requires-2 : tie.Need-requiring-requires-in-81
 requiring-requires-2 c κs = search rules
 
-requiring-requires-3 : tie.Need-requiring-requires-3
+requiring-requires-3 : tie.Need-requiring-requires-in-98
 requiring-requires-3 c κs = search rules
 
-requiring-requires-4 : tie.Need-requiring-requires-4
+requiring-requires-4 : tie.Need-requiring-requires-in-66
 requiring-requires-4 c κs = search rules
 
-requiring-requires-5 : tie.Need-requiring-requires-5
+requiring-requires-5 : tie.Need-requiring-requires-in-99
 requiring-requires-5 c κs = search rules
 
-requiring-requires-6 : tie.Need-requiring-requires-6
+requiring-requires-6 : tie.Need-requiring-requires-in-115
 requiring-requires-6 c κs = search rules
 
-requiring-requires-7 : tie.Need-requiring-requires-7
+requiring-requires-7 : tie.Need-requiring-requires-in-83
 requiring-requires-7 c κs = search rules
 
-requiring-requires-8 : tie.Need-requiring-requires-8
+requiring-requires-8 : tie.Need-requiring-requires-in-116
 requiring-requires-8 c κs = search rules
 
-requiring-layout-requires : tie.Need-requiring-layout-requires
+requiring-layout-requires : tie.Need-requiring_layout-requires
 requiring-layout-requires c κs = search rules
 
-requiring-layout-requires-2 : tie.Need-requiring-layout-requires-2
+requiring-layout-requires-2 : tie.Need-requiring_layout-requires-in-76
 requiring-layout-requires-2 c κs = search rules
 
-requiring-layout-requires-3 : tie.Need-requiring-layout-requires-3
+requiring-layout-requires-3 : tie.Need-requiring_layout-requires-in-109
 requiring-layout-requires-3 c κs = search rules
 
-requiring-requires-9 : tie.Need-requiring-requires-9
+requiring-requires-9 : tie.Need-requiring-requires-in_default
 requiring-requires-9 c κs = search rules
 
-returns : tie.Need-returns
+returns : tie.Need-returns-in-112
 unfolding opened₀ on_target Enums.constraint
-returns c = required c.before.before.before.before.before.args.text.now c.before.before.before.before.before.args.c.at c.before.before.before.if1.true c.before.match.keys1 refl c.requiring.result c.requiring.ensures
+returns c = required c.args.text.now c.args.c.at c.if-at-text.true c.in-112.is refl c.requiring.result c.requiring.ensures
 
-returns-2 : tie.Need-returns-2
+returns-2 : tie.Need-returns-in-81
 unfolding opened₀ on_target Enums.constraint
-returns-2 c = required c.before.before.before.before.before.args.text.now c.before.before.before.before.before.args.c.at c.before.before.before.if1.true c.before.match.keys2 refl c.requiring2.result c.requiring2.ensures
+returns-2 c = required c.args.text.now c.args.c.at c.if-at-text.true c.in-81.is refl c.requiring-in-81.result c.requiring-in-81.ensures
 
-returns-3 : tie.Need-returns-3
+returns-3 : tie.Need-returns-in-98
 unfolding opened₀ on_target Enums.constraint
-returns-3 c = required c.before.before.before.before.before.args.text.now c.before.before.before.before.before.args.c.at c.before.before.before.if1.true c.before.match.keys3 refl c.requiring3.result c.requiring3.ensures
+returns-3 c = required c.args.text.now c.args.c.at c.if-at-text.true c.in-98.is refl c.requiring-in-98.result c.requiring-in-98.ensures
 
-returns-4 : tie.Need-returns-4
+returns-4 : tie.Need-returns-in-66
 unfolding opened₀ on_target Enums.constraint
-returns-4 c = required c.before.before.before.before.before.args.text.now c.before.before.before.before.before.args.c.at c.before.before.before.if1.true c.before.match.keys4 refl c.requiring4.result c.requiring4.ensures
+returns-4 c = required c.args.text.now c.args.c.at c.if-at-text.true c.in-66.is refl c.requiring-in-66.result c.requiring-in-66.ensures
 
-returns-5 : tie.Need-returns-5
+returns-5 : tie.Need-returns-in-99
 unfolding opened₀ on_target Enums.constraint
-returns-5 c = required c.before.before.before.before.before.args.text.now c.before.before.before.before.before.args.c.at c.before.before.before.if1.true c.before.match.keys5 refl c.requiring5.result c.requiring5.ensures
+returns-5 c = required c.args.text.now c.args.c.at c.if-at-text.true c.in-99.is refl c.requiring-in-99.result c.requiring-in-99.ensures
 
-returns-6 : tie.Need-returns-6
+returns-6 : tie.Need-returns-in-115
 unfolding opened₀ on_target Enums.constraint
-returns-6 c = required c.before.before.before.before.before.args.text.now c.before.before.before.before.before.args.c.at c.before.before.before.if1.true c.before.match.keys6 refl c.requiring6.result c.requiring6.ensures
+returns-6 c = required c.args.text.now c.args.c.at c.if-at-text.true c.in-115.is refl c.requiring-in-115.result c.requiring-in-115.ensures
 
-returns-7 : tie.Need-returns-7
+returns-7 : tie.Need-returns-in-83
 unfolding opened₀ on_target Enums.constraint
-returns-7 c = required c.before.before.before.before.before.args.text.now c.before.before.before.before.before.args.c.at c.before.before.before.if1.true c.before.match.keys7 refl c.requiring7.result c.requiring7.ensures
+returns-7 c = required c.args.text.now c.args.c.at c.if-at-text.true c.in-83.is refl c.requiring-in-83.result c.requiring-in-83.ensures
 
-returns-8 : tie.Need-returns-8
+returns-8 : tie.Need-returns-in-116
 unfolding opened₀ on_target Enums.constraint
-returns-8 c = required c.before.before.before.before.before.args.text.now c.before.before.before.before.before.args.c.at c.before.before.before.if1.true c.before.match.keys8 refl c.requiring8.result c.requiring8.ensures
+returns-8 c = required c.args.text.now c.args.c.at c.if-at-text.true c.in-116.is refl c.requiring-in-116.result c.requiring-in-116.ensures
 
-returns-9 : tie.Need-returns-9
+returns-9 : tie.Need-returns-in-108
 unfolding opened₀ on_target Enums.constraint
-returns-9 c = required c.before.before.before.before.before.args.text.now c.before.before.before.before.before.args.c.at c.before.before.before.if1.true c.before.match.keys9 refl c.requiring_layout.result c.requiring_layout.ensures
+returns-9 c = required c.args.text.now c.args.c.at c.if-at-text.true c.in-108.is refl c.requiring_layout.result c.requiring_layout.ensures
 
-returns-10 : tie.Need-returns-10
+returns-10 : tie.Need-returns-in-76
 unfolding opened₀ on_target Enums.constraint
-returns-10 c = required c.before.before.before.before.before.args.text.now c.before.before.before.before.before.args.c.at c.before.before.before.if1.true c.before.match.keys10 refl c.requiring-layout2.result c.requiring-layout2.ensures
+returns-10 c = required c.args.text.now c.args.c.at c.if-at-text.true c.in-76.is refl c.requiring_layout-in-76.result c.requiring_layout-in-76.ensures
 
-returns-11 : tie.Need-returns-11
+returns-11 : tie.Need-returns-in-109
 unfolding opened₀ on_target Enums.constraint
-returns-11 c = required c.before.before.before.before.before.args.text.now c.before.before.before.before.before.args.c.at c.before.before.before.if1.true c.before.match.keys11 refl c.requiring-layout3.result c.requiring-layout3.ensures
+returns-11 c = required c.args.text.now c.args.c.at c.if-at-text.true c.in-109.is refl c.requiring_layout-in-109.result c.requiring_layout-in-109.ensures
 
-returns-12 : tie.Need-returns-12
+returns-12 : tie.Need-returns-in-80
 unfolding opened₀ Enums.number
-returns-12 c = requirement_some c.before.before.before.before.args.text.now c.before.before.before.before.args.c.at c.before.before.if1.true (letter requirements c.match.keys12 refl)
+returns-12 c = requirement_some c.args.text.now c.args.c.at c.if-at-text.true (letter requirements c.in-80.is refl)
 
-returns-13 : tie.Need-returns-13
+returns-13 : tie.Need-returns-in-67
 unfolding opened₀ Enums.number
-returns-13 c = requirement_some c.before.before.before.before.args.text.now c.before.before.before.before.args.c.at c.before.before.if1.true (letter requirements c.match.keys13 refl)
+returns-13 c = requirement_some c.args.text.now c.args.c.at c.if-at-text.true (letter requirements c.in-67.is refl)
 
-returns-14 : tie.Need-returns-14
+returns-14 : tie.Need-returns-in-84
 unfolding opened₀ Enums.number
-returns-14 c = requirement_some c.before.before.before.before.args.text.now c.before.before.before.before.args.c.at c.before.before.if1.true (letter requirements c.match.keys14 refl)
+returns-14 c = requirement_some c.args.text.now c.args.c.at c.if-at-text.true (letter requirements c.in-84.is refl)
 
-returns-15 : tie.Need-returns-15
+returns-15 : tie.Need-returns-in-77
 unfolding opened₀ Enums.number
-returns-15 c = requirement_some c.before.before.before.before.args.text.now c.before.before.before.before.args.c.at c.before.before.if1.true (letter requirements c.match.keys15 refl)
+returns-15 c = requirement_some c.args.text.now c.args.c.at c.if-at-text.true (letter requirements c.in-77.is refl)
 
-returns-16 : tie.Need-returns-16
+returns-16 : tie.Need-returns-in_default
 unfolding opened₀ on_target Enums.constraint
-returns-16 c = operated_is c.before.before.before.before.before.args.text.now (requirement_none c.before.before.before.before.before.args.text.now c.before.before.before.before.before.args.c.at c.before.before.before.if1.true (past (get_or c.before.before.before.before.before.args.text.now c.before.before.before.before.before.args.c.at 0) requirements c.before.match.rest)) (le_refl _) c.requiring9.result c.requiring9.ensures
+returns-16 c = operated_is c.args.text.now (requirement_none c.args.text.now c.args.c.at c.if-at-text.true (past (get_or c.args.text.now c.args.c.at 0) requirements c.in_default.in_default-own.rest)) (le_refl _) c.requiring-in_default.result c.requiring-in_default.ensures
 
-returns-17 : tie.Need-returns-17
+returns-17 : tie.Need-returns
 unfolding Enums.number
-returns-17 c = requirement_end c.before.before.args.text.now c.before.before.args.c.at c.if1.false
+returns-17 c = requirement_end c.args.text.now c.args.c.at c.if-at-text.false
 
 pub requirement_spec : {M : Type 1} → statement M
 requirement_spec =

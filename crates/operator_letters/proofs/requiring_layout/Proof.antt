@@ -9,27 +9,32 @@ use borrow.Author.Rules.{rules}
 use Rattle.operator_letters.proofs.requiring_layout.Statement.{statement}
 use Rattle.operator_letters.proofs.requiring_layout.Tie as tie
 
-subject-of-requires : tie.Need-subject-of-requires
+subject-of-requires : tie.Need-subject_of-requires
 subject-of-requires c κs = search rules
 
-enum-known-s : tie.Need-enum-known-s
+enum-known-s : tie.Need-enum_known-s
 enum-known-s c = search rules
 
 layout-requires : tie.Need-layout-requires
-layout-requires c κs = let g = subject_read c.before.before.before.before.before.args.text.now c.before.before.before.before.before.args.c.at c.before.s.given.1 c.before.before.before.subject-of.ensures in g.inside
+layout-requires c κs = let g = subject_read c.args.text.now c.args.c.at c.in-Read.is c.subject_of.ensures in g.inside
 
-enum-known-f : tie.Need-enum-known-f
+enum-known-f : tie.Need-enum_known-f
 enum-known-f c = search rules
 
-returns : tie.Need-returns
+returns : tie.Need-returns-in-Read
 returns c =
-    let g = subject_read c.before.before.before.before.before.before.args.text.now c.before.before.before.before.before.before.args.c.at c.before.before.s.given.1 c.before.before.before.before.subject-of.ensures in
-    operated_is c.before.before.before.before.before.before.args.text.now (requiring_layout_is (on_target c.before.before.before.before.before.before.args.target) (drop c.before.before.before.before.before.before.args.c.at c.before.before.before.before.before.before.args.text.now) ∙ then_ok layout_letter g.is) g.onward c.layout.result c.layout.ensures
+    let g = subject_read c.args.text.now c.args.c.at c.in-Read.is c.subject_of.ensures in
+    operated_is c.args.text.now (requiring_layout_is (on_target c.args.target) (drop c.args.c.at c.args.text.now) ∙ then_ok layout_letter g.is) g.onward c.layout.result c.layout.ensures
 
-returns-2 : tie.Need-returns-2
-returns-2 c = requiring_layout_is (on_target c.before.before.before.before.before.args.target) (drop c.before.before.before.before.before.args.c.at c.before.before.before.before.before.args.text.now) ∙ then_refused layout_letter (subject_refused c.before.before.before.before.before.args.text.now c.before.before.before.before.before.args.c.at c.before.f.given.1 c.before.before.before.subject-of.ensures)
+returns-2 : tie.Need-returns-in-Refused
+returns-2 c = requiring_layout_is (on_target c.args.target) (drop c.args.c.at c.args.text.now) ∙ then_refused layout_letter (subject_refused c.args.text.now c.args.c.at c.in-Refused.is c.subject_of.ensures)
 
 pub requiring_layout_spec : {M : Type 1} → statement M
 requiring_layout_spec =
     tie.close
-    (tie.spec subject-of-requires enum-known-s layout-requires enum-known-f returns returns-2)
+    (tie.spec subject-of-requires
+    enum-known-s
+    layout-requires
+    enum-known-f
+    returns
+    returns-2)

@@ -13,22 +13,26 @@ use Rattle.operator_letters.proofs.suspend_resume.Tie as tie
 index-requires : tie.Need-index-requires
 index-requires c κs = search rules
 
-enum-known-i : tie.Need-enum-known-i
+enum-known-i : tie.Need-enum_known-i
 enum-known-i c = search rules
 
-enum-known-f : tie.Need-enum-known-f
+enum-known-f : tie.Need-enum_known-f
 enum-known-f c = search rules
 
-returns : tie.Need-returns
+returns : tie.Need-returns-in-Read
 unfolding suspend_resume Enums.operator
 returns c =
-    let g = number_read c.before.before.before.before.before.args.text.now c.before.before.before.before.before.args.c.at c.before.i.given.1 c.before.before.before.index.ensures in
+    let g = number_read c.args.text.now c.args.c.at c.in-Read.is c.index.ensures in
     record { is = then_ok (λ (i : ℕ) (u : Text). ok (record_of an_entity (suspend_resume_text i)) u) g.is; inside = g.inside; onward = omega arith }
 
-returns-2 : tie.Need-returns-2
+returns-2 : tie.Need-returns-in-Refused
 unfolding suspend_resume Enums.operator
-returns-2 c = then_refused (λ (i : ℕ) (u : Text). ok (record_of an_entity (suspend_resume_text i)) u) (number_refused c.before.before.before.before.before.args.text.now c.before.before.before.before.before.args.c.at c.before.f.given.1 c.before.before.before.index.ensures)
+returns-2 c = then_refused (λ (i : ℕ) (u : Text). ok (record_of an_entity (suspend_resume_text i)) u) (number_refused c.args.text.now c.args.c.at c.in-Refused.is c.index.ensures)
 
 pub suspend_resume_spec : {M : Type 1} → statement M
 suspend_resume_spec =
-    tie.close (tie.spec index-requires enum-known-i enum-known-f returns returns-2)
+    tie.close (tie.spec index-requires
+    enum-known-i
+    enum-known-f
+    returns
+    returns-2)

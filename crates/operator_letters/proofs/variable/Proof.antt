@@ -15,27 +15,31 @@ use native.Mathlib.Omega.{arith}
 use Rattle.operator_letters.proofs.variable.Statement.{statement}
 use Rattle.operator_letters.proofs.variable.Tie as tie
 
-shared-slice-read-accessor-of : tie.Need-shared-slice-read-accessor-of
+shared-slice-read-accessor-of : tie.Need-bounds-text-at
 shared-slice-read-accessor-of c = search rules
 
-accessor-of-requires : tie.Need-accessor-of-requires
+accessor-of-requires : tie.Need-accessor_of-requires
 accessor-of-requires c κs = search rules
 
-add-t10 : tie.Need-overflow-add-t10
+add-t10 : tie.Need-overflow_add-result
 add-t10 c = search rules
 
-returns : tie.Need-returns
+returns : tie.Need-returns-then-at-text
 returns c = record {
-  is = then_ok (λ (a : Late (Option String)) (u : Text). ok (variable a) u) (late_read c.before.before.before.before.args.text.now c.before.before.before.before.args.c.at accessors c.before.before.if1.true) ∙ ap (λ (q : Operator). ok q (drop (c.before.before.before.before.args.c.at + 1) c.before.before.before.before.args.text.now)) (sym c.accessor_of.ensures);
+  is = then_ok (λ (a : Late (Option String)) (u : Text). ok (variable a) u) (late_read c.args.text.now c.args.c.at accessors c.if-at-text.true) ∙ ap (λ (q : Operator). ok q (drop (c.args.c.at + 1) c.args.text.now)) (sym c.accessor_of.ensures);
   inside = omega arith;
   onward = omega arith;
 }
 
-returns-2 : tie.Need-returns-2
+returns-2 : tie.Need-returns
 unfolding Enums.operator
-returns-2 c = record { is = then_ok (λ (a : Late (Option String)) (u : Text). ok (variable a) u) (late_none c.before.before.args.text.now c.before.before.args.c.at accessors c.if1.false); inside = c.before.before.requires; onward = omega arith }
+returns-2 c = record { is = then_ok (λ (a : Late (Option String)) (u : Text). ok (variable a) u) (late_none c.args.text.now c.args.c.at accessors c.if-at-text.false); inside = c.requires; onward = omega arith }
 
 pub variable_spec : {M : Type 1} → statement M
 variable_spec =
     tie.close
-    (tie.spec shared-slice-read-accessor-of accessor-of-requires add-t10 returns returns-2)
+    (tie.spec shared-slice-read-accessor-of
+    accessor-of-requires
+    add-t10
+    returns
+    returns-2)

@@ -9,54 +9,54 @@ use borrow.Author.Rules.{rules}
 use Rattle.operator_letters.proofs.witness.Statement.{statement}
 use Rattle.operator_letters.proofs.witness.Tie as tie
 
-add-t8 : tie.Need-overflow-add-t8
+add-t8 : tie.Need-overflow_add-next
 add-t8 c = search rules
 
-shared-slice-read-match : tie.Need-shared-slice-read-match
+shared-slice-read-match : tie.Need-bounds-text-at
 shared-slice-read-match c = search rules
 
-field-offset-requires : tie.Need-field-offset-requires
+field-offset-requires : tie.Need-field_offset-requires
 field-offset-requires c κs = search rules
 
-returns : tie.Need-returns
+returns : tie.Need-returns-in-118
 unfolding opened₀
-returns c = chosen_step witnesses (behind c.before.before.before.before.before.args.text.now c.before.before.before.before.before.args.c.at c.before.before.before.if1.true) c.before.match.keys2 refl c.field-offset.result c.field-offset.ensures
+returns c = chosen_step witnesses (behind c.args.text.now c.args.c.at c.if-at-text.true) c.in-118.is refl c.field_offset.result c.field_offset.ensures
 
-returns-2 : tie.Need-returns-2
+returns-2 : tie.Need-returns-in_default
 unfolding opened₀ Enums.number
-returns-2 c = no_choice_then witnesses (behind c.before.before.before.before.args.text.now c.before.before.before.before.args.c.at c.before.before.if1.true) c.match.rest
+returns-2 c = no_choice_then witnesses (behind c.args.text.now c.args.c.at c.if-at-text.true) c.in_default.in_default-own.rest
 
-returns-3 : tie.Need-returns-3
+returns-3 : tie.Need-returns-in-86
 unfolding opened₀ Enums.operator Enums.leaf Enums.about Enums.nominal_kind fixed fixed_names
-returns-3 c = chosen_then witnesses (behind c.before.before.before.before.args.text.now c.before.before.before.before.args.c.at c.before.before.if1.true) c.match.keys1 refl
+returns-3 c = chosen_then witnesses (behind c.args.text.now c.args.c.at c.if-at-text.true) c.in-86.is refl
 
-returns-4 : tie.Need-returns-4
+returns-4 : tie.Need-returns-in-108
 unfolding opened₀ Enums.operator Enums.leaf Enums.about Enums.nominal_kind fixed fixed_names
-returns-4 c = chosen_then witnesses (behind c.before.before.before.before.args.text.now c.before.before.before.before.args.c.at c.before.before.if1.true) c.match.keys3 refl
+returns-4 c = chosen_then witnesses (behind c.args.text.now c.args.c.at c.if-at-text.true) c.in-108.is refl
 
-returns-5 : tie.Need-returns-5
+returns-5 : tie.Need-returns-in-76
 unfolding opened₀ Enums.operator Enums.leaf Enums.about Enums.nominal_kind fixed fixed_names
-returns-5 c = chosen_then witnesses (behind c.before.before.before.before.args.text.now c.before.before.before.before.args.c.at c.before.before.if1.true) c.match.keys4 refl
+returns-5 c = chosen_then witnesses (behind c.args.text.now c.args.c.at c.if-at-text.true) c.in-76.is refl
 
-returns-6 : tie.Need-returns-6
+returns-6 : tie.Need-returns-in-80
 unfolding opened₀ Enums.operator Enums.leaf Enums.about Enums.nominal_kind fixed fixed_names
-returns-6 c = chosen_then witnesses (behind c.before.before.before.before.args.text.now c.before.before.before.before.args.c.at c.before.before.if1.true) c.match.keys5 refl
+returns-6 c = chosen_then witnesses (behind c.args.text.now c.args.c.at c.if-at-text.true) c.in-80.is refl
 
-returns-7 : tie.Need-returns-7
+returns-7 : tie.Need-returns-in-112
 unfolding opened₀ Enums.operator Enums.leaf Enums.about Enums.nominal_kind fixed fixed_names
-returns-7 c = chosen_then witnesses (behind c.before.before.before.before.args.text.now c.before.before.before.before.args.c.at c.before.before.if1.true) c.match.keys6 refl
+returns-7 c = chosen_then witnesses (behind c.args.text.now c.args.c.at c.if-at-text.true) c.in-112.is refl
 
-returns-8 : tie.Need-returns-8
+returns-8 : tie.Need-returns-in-97
 unfolding opened₀ Enums.operator Enums.leaf Enums.about Enums.nominal_kind fixed fixed_names
-returns-8 c = chosen_then witnesses (behind c.before.before.before.before.args.text.now c.before.before.before.before.args.c.at c.before.before.if1.true) c.match.keys7 refl
+returns-8 c = chosen_then witnesses (behind c.args.text.now c.args.c.at c.if-at-text.true) c.in-97.is refl
 
-returns-9 : tie.Need-returns-9
+returns-9 : tie.Need-returns-in-83
 unfolding opened₀ Enums.operator Enums.leaf Enums.about Enums.nominal_kind fixed fixed_names
-returns-9 c = chosen_then witnesses (behind c.before.before.before.before.args.text.now c.before.before.before.before.args.c.at c.before.before.if1.true) c.match.keys8 refl
+returns-9 c = chosen_then witnesses (behind c.args.text.now c.args.c.at c.if-at-text.true) c.in-83.is refl
 
-returns-10 : tie.Need-returns-10
+returns-10 : tie.Need-returns
 unfolding Enums.number
-returns-10 c = choose_then_ended c.before.before.args.text.now c.before.before.args.c.at c.if1.false witnesses
+returns-10 c = choose_then_ended c.args.text.now c.args.c.at c.if-at-text.false witnesses
 
 pub witness_spec : {M : Type 1} → statement M
 witness_spec =

@@ -4,14 +4,16 @@ use Rattle.print_names.proofs.Numbers.{named_spells, offset_in, same_fixed}
 use Rattle.print_names.proofs.named_is.Statement.{statement}
 use Rattle.print_names.proofs.named_is.Tie as tie
 
-name-is-requires : tie.Need-name-is-requires
-name-is-requires c κs = (offset_in c.before.before.before.args.text.now (lent c.before.before.before.args.starts.now c.before.before.before.args.lengths.now c.before.before.before.args.known) c.if1.true c.before.before.before.requires.1.0.is, (c.before.before.before.requires.0.short, c.before.before.before.requires.0.fitting))
+name-is-requires : tie.Need-name_is-requires
+name-is-requires c κs = (offset_in c.args.text.now (lent c.args.starts.now c.args.lengths.now c.args.known) c.if-k-lt65536.true c.requires.1.0.is, (c.requires.0.short, c.requires.0.fitting))
 
-returns : tie.Need-returns
-returns c = λ name h. c.name_is.ensures name (named_spells c.before.before.before.before.args.text.now (lent c.before.before.before.before.args.starts.now c.before.before.before.before.args.lengths.now c.before.before.before.before.args.known) c.before.if1.true h)
+returns : tie.Need-returns-then-k-lt65536
+returns c = λ name h. c.name_is.ensures name (named_spells c.args.text.now (lent c.args.starts.now c.args.lengths.now c.args.known) c.if-k-lt65536.true h)
 
-returns-2 : tie.Need-returns-2
-returns-2 c = λ name h. same_fixed c.before.before.before.args.text.now (lent c.before.before.before.args.starts.now c.before.before.before.args.lengths.now c.before.before.before.args.known) c.if1.false c.before.before.before.requires.1.1 h
+returns-2 : tie.Need-returns
+returns-2 c = λ name h. same_fixed c.args.text.now (lent c.args.starts.now c.args.lengths.now c.args.known) c.if-k-lt65536.false c.requires.1.1 h
 
 pub named_is_spec : {M : Type 1} → statement M
-named_is_spec = tie.close (tie.spec name-is-requires returns returns-2)
+named_is_spec = tie.close (tie.spec name-is-requires
+    returns
+    returns-2)

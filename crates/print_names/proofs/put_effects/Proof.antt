@@ -5,34 +5,34 @@ use borrow.Author.Rules.{rules}
 use Rattle.print_names.proofs.put_effects.Statement.{statement}
 use Rattle.print_names.proofs.put_effects.Tie as tie
 
-put-text-requires : tie.Need-put-text-requires
+put-text-requires : tie.Need-put_text-r-requires
 put-text-requires c κs = search rules
 
-put-text-requires-2 : tie.Need-put-text-requires-2
+put-text-requires-2 : tie.Need-put_text-requires
 put-text-requires-2 c κs = search rules
 
-returns : tie.Need-returns
-returns c = wrote_is (both_effects _ _ c.before.before.before.before.before.before.before.before.before.if1.true c.before.before.before.before.if2.true) (wrote_then c.before.before.before.before.before.before.before.put-text.ensures c.before.before.put-text2.ensures)
+returns : tie.Need-returns-then-throws
+returns c = wrote_is (both_effects _ _ c.if-asynchronous.true c.if-throws.true) (wrote_then c.put_text-r.ensures c.put_text.ensures)
 
-returns-2 : tie.Need-returns-2
-returns-2 c = wrote_is (only_async _ _ c.before.before.before.before.before.if1.true c.if2.false) c.before.before.before.put-text.ensures
+returns-2 : tie.Need-returns-then-asynchronous
+returns-2 c = wrote_is (only_async _ _ c.if-asynchronous.true c.if-throws.false) c.put_text-r.ensures
 
-put-text-requires-3 : tie.Need-put-text-requires-3
+put-text-requires-3 : tie.Need-put_text-requires-then-throws-2
 put-text-requires-3 c κs = search rules
 
-returns-3 : tie.Need-returns-3
-returns-3 c = wrote_is (only_throws _ _ c.before.before.before.before.before.if1.false c.before.before.before.before.if3.true) c.before.before.put-text3.ensures
+returns-3 : tie.Need-returns-then-throws-2
+returns-3 c = wrote_is (only_throws _ _ c.if-asynchronous.false c.if-throws-2.true) c.put_text-then-throws-2.ensures
 
-returns-4 : tie.Need-returns-4
-returns-4 c = wrote_is (no_effects _ _ c.before.if1.false c.if3.false) (wrote_nothing c.before.before.before.requires)
+returns-4 : tie.Need-returns
+returns-4 c = wrote_is (no_effects _ _ c.if-asynchronous.false c.if-throws-2.false) (wrote_nothing c.requires)
 
-same_length : tie.Need-same-length
+same_length : tie.Need-shape_of-out-then-throws
 same_length c = search rules
 
-same-length-2 : tie.Need-same-length-2
+same-length-2 : tie.Need-shape_of-out-then-asynchronous
 same-length-2 c = search rules
 
-same-length-3 : tie.Need-same-length-3
+same-length-3 : tie.Need-shape_of-out-then-throws-2
 same-length-3 c = search rules
 
 pub put_effects_spec : {M : Type 1} → statement M

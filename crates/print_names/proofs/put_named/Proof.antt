@@ -5,25 +5,30 @@ use borrow.Author.Rules.{rules}
 use Rattle.print_names.proofs.put_named.Statement.{statement}
 use Rattle.print_names.proofs.put_named.Tie as tie
 
-put-name-requires : tie.Need-put-name-requires
-put-name-requires c κs = (c.before.before.before.before.requires.0, (offset_in c.before.before.before.before.args.text.now (lent c.before.before.before.before.args.starts.now c.before.before.before.before.args.lengths.now c.before.before.before.before.args.known) c.before.if1.true c.before.before.before.before.requires.1.1.is, (c.before.before.before.before.requires.1.0.short, c.before.before.before.before.requires.1.0.fitting)))
+put-name-requires : tie.Need-put_name-requires
+put-name-requires c κs = (c.requires.0, (offset_in c.args.text.now (lent c.args.starts.now c.args.lengths.now c.args.known) c.if-k-lt65536.true c.requires.1.1.is, (c.requires.1.0.short, c.requires.1.0.fitting)))
 
-returns : tie.Need-returns
-returns c = puts_spelled c.before.before.before.before.before.before.before.args.text.now (lent c.before.before.before.before.before.before.before.args.starts.now c.before.before.before.before.before.before.before.args.lengths.now c.before.before.before.before.before.before.before.args.known) c.before.before.before.before.if1.true c.before.before.put-name.ensures
+returns : tie.Need-returns-then-k-lt65536
+returns c = puts_spelled c.args.text.now (lent c.args.starts.now c.args.lengths.now c.args.known) c.if-k-lt65536.true c.put_name.ensures
 
-put-fixed-requires : tie.Need-put-fixed-requires
+put-fixed-requires : tie.Need-put_fixed-requires
 put-fixed-requires c κs = search rules
 
-returns-2 : tie.Need-returns-2
-returns-2 c = puts_fixed c.before.before.before.before.before.before.before.args.text.now (lent c.before.before.before.before.before.before.before.args.starts.now c.before.before.before.before.before.before.before.args.lengths.now c.before.before.before.before.before.before.before.args.known) c.before.before.before.before.if1.false c.before.before.put-fixed.ensures
+returns-2 : tie.Need-returns
+returns-2 c = puts_fixed c.args.text.now (lent c.args.starts.now c.args.lengths.now c.args.known) c.if-k-lt65536.false c.put_fixed.ensures
 
-same_length : tie.Need-same-length
+same_length : tie.Need-shape_of-out-then-k-lt65536
 same_length c = search rules
 
-same-length-2 : tie.Need-same-length-2
+same-length-2 : tie.Need-shape_of-out
 same-length-2 c = search rules
 
 pub put_named_spec : {M : Type 1} → statement M
 put_named_spec =
     tie.close
-    (tie.spec put-name-requires same_length returns put-fixed-requires same-length-2 returns-2)
+    (tie.spec put-name-requires
+    same_length
+    returns
+    put-fixed-requires
+    same-length-2
+    returns-2)

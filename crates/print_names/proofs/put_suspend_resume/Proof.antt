@@ -5,22 +5,26 @@ use borrow.Author.Rules.{rules}
 use Rattle.print_names.proofs.put_suspend_resume.Statement.{statement}
 use Rattle.print_names.proofs.put_suspend_resume.Tie as tie
 
-put-text-requires : tie.Need-put-text-requires
+put-text-requires : tie.Need-put_text-r-requires
 put-text-requires c κs = search rules
 
-put-decimal-requires : tie.Need-put-decimal-requires
+put-decimal-requires : tie.Need-put_decimal-s-requires
 put-decimal-requires c κs = search rules
 
-put-text-requires-2 : tie.Need-put-text-requires-2
+put-text-requires-2 : tie.Need-put_text-requires
 put-text-requires-2 c κs = search rules
 
 returns : tie.Need-returns
-returns c = wrote_is (suspend_resume_is _) (wrote_then (wrote_then c.before.before.before.before.before.before.before.before.before.before.put-text.ensures c.before.before.before.before.before.before.put-decimal.ensures) c.before.before.put-text2.ensures)
+returns c = wrote_is (suspend_resume_is _) (wrote_then (wrote_then c.put_text-r.ensures c.put_decimal-s.ensures) c.put_text.ensures)
 
-same_length : tie.Need-same-length
+same_length : tie.Need-shape_of-out
 same_length c = search rules
 
 pub put_suspend_resume_spec : {M : Type 1} → statement M
 put_suspend_resume_spec =
     tie.close
-    (tie.spec put-text-requires put-decimal-requires put-text-requires-2 same_length returns)
+    (tie.spec put-text-requires
+    put-decimal-requires
+    put-text-requires-2
+    same_length
+    returns)

@@ -8,40 +8,40 @@ use Rattle.tree_ends.proofs.single.Statement.{statement}
 use Rattle.tree_ends.proofs.single.Tie as tie
 
 -- src/lib.rt:297:9
-returns : tie.Need-returns
-returns c = single_none c.before.before.args.what c.if1.true
+returns : tie.Need-returns-then-depth-ne1
+returns c = single_none c.args.what c.if-depth-ne1.true
 
 -- src/lib.rt:299:30
-mul_wide : tie.Need-overflow-mul-wide
+mul_wide : tie.Need-overflow_mul-n
 mul_wide c = search rules
 
 -- src/lib.rt:299:27
-mul-wide-2 : tie.Need-overflow-mul-wide-2
+mul-wide-2 : tie.Need-offset_bounds-ws-n
 mul-wide-2 c = search rules
 
 -- src/lib.rt:299:27
-shared-slice-read-wide : tie.Need-shared-slice-read-wide
+shared-slice-read-wide : tie.Need-bounds-ws-n
 shared-slice-read-wide c = search rules
 
 -- src/lib.rt:299:9
-wide-requires : tie.Need-wide-requires
+wide-requires : tie.Need-wide-p-requires
 wide-requires c κs = search rules
 
 -- src/lib.rt:300:26
 field-requires : tie.Need-field-requires
-field-requires c κs = (inside_record _ (at_place c.wide.ensures.0 (single_inside c.before.before.before.before.args.what (omega (arith, c.before.before.if1.false)) c.before.before.before.before.requires)) c.before.before.before.before.requires, omega arith)
+field-requires c κs = (inside_record _ (at_place c.wide-p.ensures.0 (single_inside c.args.what (omega (arith, c.if-depth-ne1.false)) c.requires)) c.requires, omega arith)
 
 -- src/lib.rt:300:8
 takes-requires : tie.Need-takes-requires
 takes-requires c κs = search rules
 
 -- src/lib.rt:301:9
-returns-2 : tie.Need-returns-2
-returns-2 c = single_at c.before.before.before.before.before.before.before.args.what (omega (arith, c.before.before.before.before.before.if1.false)) _ c.before.before.before.wide.ensures.0 (ap (kinds_of c.before.before.before.before.before.before.before.args.what) (sym c.before.before.field.ensures) ∙ (sym c.before.takes.ensures ∙ c.if2.true))
+returns-2 : tie.Need-returns-then-takes
+returns-2 c = single_at c.args.what (omega (arith, c.if-depth-ne1.false)) _ c.wide-p.ensures.0 (ap (kinds_of c.args.what) (sym c.field.ensures) ∙ (sym c.takes.ensures ∙ c.if-takes.true))
 
 -- src/lib.rt:291:1
-returns-3 : tie.Need-returns-3
-returns-3 c = single_other c.before.before.before.before.before.before.before.args.what (omega (arith, c.before.before.before.before.before.if1.false)) _ c.before.before.before.wide.ensures.0 (ap (kinds_of c.before.before.before.before.before.before.before.args.what) (sym c.before.before.field.ensures) ∙ (sym c.before.takes.ensures ∙ c.if2.false))
+returns-3 : tie.Need-returns
+returns-3 c = single_other c.args.what (omega (arith, c.if-depth-ne1.false)) _ c.wide-p.ensures.0 (ap (kinds_of c.args.what) (sym c.field.ensures) ∙ (sym c.takes.ensures ∙ c.if-takes.false))
 
 pub single_spec : {M : Type 1} → statement M
 single_spec =

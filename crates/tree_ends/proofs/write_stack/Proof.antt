@@ -8,119 +8,119 @@ use Rattle.tree_ends.proofs.StackEnds.{Filling, fill_first, fill_more, fill_all,
 use Rattle.tree_ends.proofs.write_stack.Statement.{statement}
 use Rattle.tree_ends.proofs.write_stack.Tie as tie
 
-abbrev invariant-loop : tie.invariant-loop
+abbrev invariant-loop : tie.invariant-loop-j
 invariant-loop ws n out₀ depth numbers j₀ out j = Filling ws n out₀ out j × (j ≤ depth)
 
-abbrev decreases-loop : tie.decreases-loop
+abbrev decreases-loop : tie.decreases-loop-j
 decreases-loop ws n out₀ depth numbers j₀ out j = depth - j
 
 -- src/lib.rt:312:19
-mul-numbers : tie.Need-overflow-mul-numbers invariant-loop decreases-loop
-mul-numbers c = omega (arith, c.before.before.requires.holds.deep, c.before.before.requires.holds.charged, c.before.before.requires.holds.small, c.before.before.requires.holds.long)
+mul-numbers : tie.Need-overflow_mul-numbers invariant-loop decreases-loop
+mul-numbers c = omega (arith, c.requires.holds.deep, c.requires.holds.charged, c.requires.holds.small, c.requires.holds.long)
 
 -- src/lib.rt:314:9
-returns : tie.Need-returns invariant-loop decreases-loop
-returns c = fill_none (omega (arith, c.if1.true))
+returns : tie.Need-returns-then-out-numbers invariant-loop decreases-loop
+returns c = fill_none (omega (arith, c.if-out-numbers.true))
 
 -- src/lib.rt:317:5
-loop-holds : tie.Need-loop-init invariant-loop decreases-loop
+loop-holds : tie.Need-loop-j-init invariant-loop decreases-loop
 loop-holds c = (fill_first _ _ _, omega arith)
 
 -- src/lib.rt:318:34
-mul_wide : tie.Need-overflow-mul-wide invariant-loop decreases-loop
-mul_wide c = omega (arith, c.before.before.before.before.before.requires.holds.deep, c.before.before.before.before.before.requires.holds.charged, c.before.before.before.before.before.requires.holds.small, c.before.before.before.before.before.requires.holds.long, c.loop-test.true, c.before.before.if1.false, c.before.loop.invariant.0.long)
+mul_wide : tie.Need-overflow_mul-n invariant-loop decreases-loop
+mul_wide c = omega (arith, c.requires.holds.deep, c.requires.holds.charged, c.requires.holds.small, c.requires.holds.long, c.loop-j-test.true, c.if-out-numbers.false, c.loop-j.invariant.0.long)
 
 -- src/lib.rt:318:34
-add_wide : tie.Need-overflow-add-wide invariant-loop decreases-loop
-add_wide c = omega (arith, c.before.before.before.before.before.requires.holds.deep, c.before.before.before.before.before.requires.holds.charged, c.before.before.before.before.before.requires.holds.small, c.before.before.before.before.before.requires.holds.long, c.loop-test.true, c.before.before.if1.false, c.before.loop.invariant.0.long)
+add_wide : tie.Need-overflow_add-n invariant-loop decreases-loop
+add_wide c = omega (arith, c.requires.holds.deep, c.requires.holds.charged, c.requires.holds.small, c.requires.holds.long, c.loop-j-test.true, c.if-out-numbers.false, c.loop-j.invariant.0.long)
 
 -- src/lib.rt:318:31
-mul-wide-2 : tie.Need-overflow-mul-wide-2 invariant-loop decreases-loop
-mul-wide-2 c = omega (arith, c.before.before.before.before.before.requires.holds.deep, c.before.before.before.before.before.requires.holds.charged, c.before.before.before.before.before.requires.holds.small, c.before.before.before.before.before.requires.holds.long, c.loop-test.true, c.before.before.if1.false, c.before.loop.invariant.0.long)
+mul-wide-2 : tie.Need-offset_bounds-ws-n invariant-loop decreases-loop
+mul-wide-2 c = omega (arith, c.requires.holds.deep, c.requires.holds.charged, c.requires.holds.small, c.requires.holds.long, c.loop-j-test.true, c.if-out-numbers.false, c.loop-j.invariant.0.long)
 
 -- src/lib.rt:318:31
-shared-slice-read-wide : tie.Need-shared-slice-read-wide invariant-loop decreases-loop
-shared-slice-read-wide c = omega (arith, c.before.before.before.before.before.before.requires.holds.deep, c.before.before.before.before.before.before.requires.holds.charged, c.before.before.before.before.before.before.requires.holds.small, c.before.before.before.before.before.before.requires.holds.long, c.before.loop-test.true, c.before.before.before.if1.false, c.before.before.loop.invariant.0.long)
+shared-slice-read-wide : tie.Need-bounds-ws-n invariant-loop decreases-loop
+shared-slice-read-wide c = omega (arith, c.requires.holds.deep, c.requires.holds.charged, c.requires.holds.small, c.requires.holds.long, c.loop-j-test.true, c.if-out-numbers.false, c.loop-j.invariant.0.long)
 
 -- src/lib.rt:318:13
-wide-requires : tie.Need-wide-requires invariant-loop decreases-loop
+wide-requires : tie.Need-wide-p-requires invariant-loop decreases-loop
 wide-requires c κs = search rules
 
 -- src/lib.rt:319:13
-field-requires : tie.Need-field-requires invariant-loop decreases-loop
-field-requires c κs = (inside_record _ (at_place c.wide.ensures.0 (stack_place c.before.before.before.loop.j c.before.before.before.before.before.before.before.requires c.before.before.loop-test.true)) c.before.before.before.before.before.before.before.requires, omega arith)
+field-requires : tie.Need-field-kind-requires invariant-loop decreases-loop
+field-requires c κs = (inside_record _ (at_place c.wide-p.ensures.0 (stack_place c.loop-j.j c.requires c.loop-j-test.true)) c.requires, omega arith)
 
 -- src/lib.rt:320:13
-field-requires-2 : tie.Need-field-requires-2 invariant-loop decreases-loop
-field-requires-2 c κs = (inside_record _ (at_place c.before.wide.ensures.0 (stack_place c.before.before.before.before.loop.j c.before.before.before.before.before.before.before.before.requires c.before.before.before.loop-test.true)) c.before.before.before.before.before.before.before.before.requires, omega arith)
+field-requires-2 : tie.Need-field-size-requires invariant-loop decreases-loop
+field-requires-2 c κs = (inside_record _ (at_place c.wide-p.ensures.0 (stack_place c.loop-j.j c.requires c.loop-j-test.true)) c.requires, omega arith)
 
 -- src/lib.rt:321:13
-field-requires-3 : tie.Need-field-requires-3 invariant-loop decreases-loop
-field-requires-3 c κs = (inside_record _ (at_place c.before.before.wide.ensures.0 (stack_place c.before.before.before.before.before.loop.j c.before.before.before.before.before.before.before.before.before.requires c.before.before.before.before.loop-test.true)) c.before.before.before.before.before.before.before.before.before.requires, omega arith)
+field-requires-3 : tie.Need-field-count-requires invariant-loop decreases-loop
+field-requires-3 c κs = (inside_record _ (at_place c.wide-p.ensures.0 (stack_place c.loop-j.j c.requires c.loop-j-test.true)) c.requires, omega arith)
 
 -- src/lib.rt:322:13
-mul-out : tie.Need-overflow-mul-out invariant-loop decreases-loop
-mul-out c = omega (arith, c.before.before.before.before.before.before.before.before.before.before.requires.holds.deep, c.before.before.before.before.before.before.before.before.before.before.requires.holds.charged, c.before.before.before.before.before.before.before.before.before.before.requires.holds.small, c.before.before.before.before.before.before.before.before.before.before.requires.holds.long, c.before.before.before.before.before.loop-test.true, c.before.before.before.before.before.before.before.if1.false, c.before.before.before.before.before.before.loop.invariant.0.long)
+mul-out : tie.Need-overflow_mul-out invariant-loop decreases-loop
+mul-out c = omega (arith, c.requires.holds.deep, c.requires.holds.charged, c.requires.holds.small, c.requires.holds.long, c.loop-j-test.true, c.if-out-numbers.false, c.loop-j.invariant.0.long)
 
 -- src/lib.rt:322:9
-mul-out-2 : tie.Need-overflow-mul-out-2 invariant-loop decreases-loop
-mul-out-2 c = omega (arith, c.before.before.before.before.before.before.before.before.before.before.requires.holds.deep, c.before.before.before.before.before.before.before.before.before.before.requires.holds.charged, c.before.before.before.before.before.before.before.before.before.before.requires.holds.small, c.before.before.before.before.before.before.before.before.before.before.requires.holds.long, c.before.before.before.before.before.loop-test.true, c.before.before.before.before.before.before.before.if1.false, c.before.before.before.before.before.before.loop.invariant.0.long)
+mul-out-2 : tie.Need-offset_bounds-out-j invariant-loop decreases-loop
+mul-out-2 c = omega (arith, c.requires.holds.deep, c.requires.holds.charged, c.requires.holds.small, c.requires.holds.long, c.loop-j-test.true, c.if-out-numbers.false, c.loop-j.invariant.0.long)
 
 -- src/lib.rt:322:9
-slice-write-out : tie.Need-slice-write-out invariant-loop decreases-loop
-slice-write-out c = omega (arith, c.before.before.before.before.before.before.before.before.before.before.requires.holds.deep, c.before.before.before.before.before.before.before.before.before.before.requires.holds.charged, c.before.before.before.before.before.before.before.before.before.before.requires.holds.small, c.before.before.before.before.before.before.before.before.before.before.requires.holds.long, c.before.before.before.before.before.loop-test.true, c.before.before.before.before.before.before.before.if1.false, c.before.before.before.before.before.before.loop.invariant.0.long)
+slice-write-out : tie.Need-bounds-out-j invariant-loop decreases-loop
+slice-write-out c = omega (arith, c.requires.holds.deep, c.requires.holds.charged, c.requires.holds.small, c.requires.holds.long, c.loop-j-test.true, c.if-out-numbers.false, c.loop-j.invariant.0.long)
 
 -- src/lib.rt:323:13
-mul-out-3 : tie.Need-overflow-mul-out-3 invariant-loop decreases-loop
-mul-out-3 c = omega (arith, c.before.before.before.before.before.before.before.before.before.before.requires.holds.deep, c.before.before.before.before.before.before.before.before.before.before.requires.holds.charged, c.before.before.before.before.before.before.before.before.before.before.requires.holds.small, c.before.before.before.before.before.before.before.before.before.before.requires.holds.long, c.before.before.before.before.before.loop-test.true, c.before.before.before.before.before.before.before.if1.false, c.before.before.before.before.before.before.loop.invariant.0.long)
+mul-out-3 : tie.Need-overflow_mul-out-in-loop-j invariant-loop decreases-loop
+mul-out-3 c = omega (arith, c.requires.holds.deep, c.requires.holds.charged, c.requires.holds.small, c.requires.holds.long, c.loop-j-test.true, c.if-out-numbers.false, c.loop-j.invariant.0.long)
 
 -- src/lib.rt:323:13
-add-out : tie.Need-overflow-add-out invariant-loop decreases-loop
-add-out c = omega (arith, c.before.before.before.before.before.before.before.before.before.before.requires.holds.deep, c.before.before.before.before.before.before.before.before.before.before.requires.holds.charged, c.before.before.before.before.before.before.before.before.before.before.requires.holds.small, c.before.before.before.before.before.before.before.before.before.before.requires.holds.long, c.before.before.before.before.before.loop-test.true, c.before.before.before.before.before.before.before.if1.false, c.before.before.before.before.before.before.loop.invariant.0.long)
+add-out : tie.Need-overflow_add-out invariant-loop decreases-loop
+add-out c = omega (arith, c.requires.holds.deep, c.requires.holds.charged, c.requires.holds.small, c.requires.holds.long, c.loop-j-test.true, c.if-out-numbers.false, c.loop-j.invariant.0.long)
 
 -- src/lib.rt:323:9
-mul-out-4 : tie.Need-overflow-mul-out-4 invariant-loop decreases-loop
-mul-out-4 c = omega (arith, c.before.before.before.before.before.before.before.before.before.before.requires.holds.deep, c.before.before.before.before.before.before.before.before.before.before.requires.holds.charged, c.before.before.before.before.before.before.before.before.before.before.requires.holds.small, c.before.before.before.before.before.before.before.before.before.before.requires.holds.long, c.before.before.before.before.before.loop-test.true, c.before.before.before.before.before.before.before.if1.false, c.before.before.before.before.before.before.loop.invariant.0.long)
+mul-out-4 : tie.Need-offset_bounds-out-j-in-loop-j invariant-loop decreases-loop
+mul-out-4 c = omega (arith, c.requires.holds.deep, c.requires.holds.charged, c.requires.holds.small, c.requires.holds.long, c.loop-j-test.true, c.if-out-numbers.false, c.loop-j.invariant.0.long)
 
 -- src/lib.rt:323:9
-slice-write-out-2 : tie.Need-slice-write-out-2 invariant-loop decreases-loop
-slice-write-out-2 c = omega (arith, c.before.before.before.before.before.before.before.before.before.before.requires.holds.deep, c.before.before.before.before.before.before.before.before.before.before.requires.holds.charged, c.before.before.before.before.before.before.before.before.before.before.requires.holds.small, c.before.before.before.before.before.before.before.before.before.before.requires.holds.long, c.before.before.before.before.before.loop-test.true, c.before.before.before.before.before.before.before.if1.false, c.before.before.before.before.before.before.loop.invariant.0.long, length-set c.before.before.before.before.before.before.loop.out (3 * c.before.before.before.before.before.before.loop.j) c.before.before.field.result)
+slice-write-out-2 : tie.Need-bounds-out-j-in-loop-j invariant-loop decreases-loop
+slice-write-out-2 c = omega (arith, c.requires.holds.deep, c.requires.holds.charged, c.requires.holds.small, c.requires.holds.long, c.loop-j-test.true, c.if-out-numbers.false, c.loop-j.invariant.0.long, length-set c.loop-j.out (3 * c.loop-j.j) c.field-kind.result)
 
 -- src/lib.rt:324:13
-mul-out-5 : tie.Need-overflow-mul-out-5 invariant-loop decreases-loop
-mul-out-5 c = omega (arith, c.before.before.before.before.before.before.before.before.before.before.requires.holds.deep, c.before.before.before.before.before.before.before.before.before.before.requires.holds.charged, c.before.before.before.before.before.before.before.before.before.before.requires.holds.small, c.before.before.before.before.before.before.before.before.before.before.requires.holds.long, c.before.before.before.before.before.loop-test.true, c.before.before.before.before.before.before.before.if1.false, c.before.before.before.before.before.before.loop.invariant.0.long)
+mul-out-5 : tie.Need-overflow_mul-out-in-loop-j-2 invariant-loop decreases-loop
+mul-out-5 c = omega (arith, c.requires.holds.deep, c.requires.holds.charged, c.requires.holds.small, c.requires.holds.long, c.loop-j-test.true, c.if-out-numbers.false, c.loop-j.invariant.0.long)
 
 -- src/lib.rt:324:13
-add-out-2 : tie.Need-overflow-add-out-2 invariant-loop decreases-loop
-add-out-2 c = omega (arith, c.before.before.before.before.before.before.before.before.before.before.requires.holds.deep, c.before.before.before.before.before.before.before.before.before.before.requires.holds.charged, c.before.before.before.before.before.before.before.before.before.before.requires.holds.small, c.before.before.before.before.before.before.before.before.before.before.requires.holds.long, c.before.before.before.before.before.loop-test.true, c.before.before.before.before.before.before.before.if1.false, c.before.before.before.before.before.before.loop.invariant.0.long)
+add-out-2 : tie.Need-overflow_add-out-in-loop-j invariant-loop decreases-loop
+add-out-2 c = omega (arith, c.requires.holds.deep, c.requires.holds.charged, c.requires.holds.small, c.requires.holds.long, c.loop-j-test.true, c.if-out-numbers.false, c.loop-j.invariant.0.long)
 
 -- src/lib.rt:324:9
-mul-out-6 : tie.Need-overflow-mul-out-6 invariant-loop decreases-loop
-mul-out-6 c = omega (arith, c.before.before.before.before.before.before.before.before.before.before.requires.holds.deep, c.before.before.before.before.before.before.before.before.before.before.requires.holds.charged, c.before.before.before.before.before.before.before.before.before.before.requires.holds.small, c.before.before.before.before.before.before.before.before.before.before.requires.holds.long, c.before.before.before.before.before.loop-test.true, c.before.before.before.before.before.before.before.if1.false, c.before.before.before.before.before.before.loop.invariant.0.long)
+mul-out-6 : tie.Need-offset_bounds-out-j-in-loop-j-2 invariant-loop decreases-loop
+mul-out-6 c = omega (arith, c.requires.holds.deep, c.requires.holds.charged, c.requires.holds.small, c.requires.holds.long, c.loop-j-test.true, c.if-out-numbers.false, c.loop-j.invariant.0.long)
 
 -- src/lib.rt:324:9
-slice-write-out-3 : tie.Need-slice-write-out-3 invariant-loop decreases-loop
-slice-write-out-3 c = omega (arith, c.before.before.before.before.before.before.before.before.before.before.requires.holds.deep, c.before.before.before.before.before.before.before.before.before.before.requires.holds.charged, c.before.before.before.before.before.before.before.before.before.before.requires.holds.small, c.before.before.before.before.before.before.before.before.before.before.requires.holds.long, c.before.before.before.before.before.loop-test.true, c.before.before.before.before.before.before.before.if1.false, c.before.before.before.before.before.before.loop.invariant.0.long, length-set c.before.before.before.before.before.before.loop.out (3 * c.before.before.before.before.before.before.loop.j) c.before.before.field.result, length-set (set c.before.before.before.before.before.before.loop.out (3 * c.before.before.before.before.before.before.loop.j) c.before.before.field.result) (3 * c.before.before.before.before.before.before.loop.j + 1) c.before.field2.result)
+slice-write-out-3 : tie.Need-bounds-out-j-in-loop-j-2 invariant-loop decreases-loop
+slice-write-out-3 c = omega (arith, c.requires.holds.deep, c.requires.holds.charged, c.requires.holds.small, c.requires.holds.long, c.loop-j-test.true, c.if-out-numbers.false, c.loop-j.invariant.0.long, length-set c.loop-j.out (3 * c.loop-j.j) c.field-kind.result, length-set (set c.loop-j.out (3 * c.loop-j.j) c.field-kind.result) (3 * c.loop-j.j + 1) c.field-size.result)
 
 -- src/lib.rt:325:9
-add-j : tie.Need-overflow-add-j invariant-loop decreases-loop
-add-j c = omega (arith, c.before.before.before.before.before.before.before.before.before.before.requires.holds.deep, c.before.before.before.before.before.before.before.before.before.before.requires.holds.charged, c.before.before.before.before.before.before.before.before.before.before.requires.holds.small, c.before.before.before.before.before.before.before.before.before.before.requires.holds.long, c.before.before.before.before.before.loop-test.true, c.before.before.before.before.before.before.before.if1.false, c.before.before.before.before.before.before.loop.invariant.0.long)
+add-j : tie.Need-overflow_add-j invariant-loop decreases-loop
+add-j c = omega (arith, c.requires.holds.deep, c.requires.holds.charged, c.requires.holds.small, c.requires.holds.long, c.loop-j-test.true, c.if-out-numbers.false, c.loop-j.invariant.0.long)
 
 -- src/lib.rt:317:5
-loop-less : tie.Need-loop-smaller invariant-loop decreases-loop
-loop-less c = omega (arith, c.before.before.before.before.before.loop-test.true)
+loop-less : tie.Need-loop-j-smaller invariant-loop decreases-loop
+loop-less c = omega (arith, c.loop-j-test.true)
 
 -- src/lib.rt:317:5
-loop-again : tie.Need-loop-preserved invariant-loop decreases-loop
-loop-again c = (fill_more _ _ _ c.before.before.before.before.before.before.loop.invariant.0 (omega (arith, c.before.before.before.before.before.loop-test.true, c.before.before.before.before.before.before.before.if1.false)) (c.before.before.field.ensures ∙ rw c.before.before.before.wide.ensures.0 refl) (c.before.field2.ensures ∙ rw c.before.before.before.wide.ensures.0 refl) (c.field3.ensures ∙ rw c.before.before.before.wide.ensures.0 refl), omega (arith, c.before.before.before.before.before.loop-test.true))
+loop-again : tie.Need-loop-j-preserved invariant-loop decreases-loop
+loop-again c = (fill_more _ _ _ c.loop-j.invariant.0 (omega (arith, c.loop-j-test.true, c.if-out-numbers.false)) (c.field-kind.ensures ∙ rw c.wide-p.ensures.0 refl) (c.field-size.ensures ∙ rw c.wide-p.ensures.0 refl) (c.field-count.ensures ∙ rw c.wide-p.ensures.0 refl), omega (arith, c.loop-j-test.true))
 
 -- src/lib.rt:307:1
-same_length : tie.Need-same-length invariant-loop decreases-loop
-same_length c = c.before.loop.invariant.0.long
+same_length : tie.Need-shape_of-out invariant-loop decreases-loop
+same_length c = c.loop-j.invariant.0.long
 
 -- src/lib.rt:307:1
-returns-2 : tie.Need-returns-2 invariant-loop decreases-loop
-returns-2 c = fill_all c.before.loop.invariant.0 (omega (arith, c.loop-test.false, c.before.loop.invariant.1)) refl (omega (arith, c.before.before.if1.false))
+returns-2 : tie.Need-returns invariant-loop decreases-loop
+returns-2 c = fill_all c.loop-j.invariant.0 (omega (arith, c.loop-j-test.false, c.loop-j.invariant.1)) refl (omega (arith, c.if-out-numbers.false))
 
 pub write_stack_spec : {M : Type 1} → statement M
 write_stack_spec =

@@ -8,10 +8,10 @@ use Rattle.tree_entities.proofs.deinitializer.Tie as tie
 
 -- src/lib.rt:52:11
 context-requires : tie.Need-context-requires
-context-requires c κs = ready_none c.before.before.requires
+context-requires c κs = ready_none c.requires
 
 -- src/lib.rt:53:23
-enum-known-p : tie.Need-enum-known-p
+enum-known-p : tie.Need-enum_known-p
 enum-known-p c = search rules
 
 -- src/lib.rt:53:70
@@ -19,28 +19,28 @@ flag-requires : tie.Need-flag-requires
 flag-requires c κs = search rules
 
 -- src/lib.rt:53:43
-push-over-requires : tie.Need-push-over-requires
-push-over-requires c κs = under (taken_place R.context 1 _ _ c.before.before.before.p.given.1 c.before.before.before.before.before.before.before.context.ensures) c.before.before.before.before.before.before.before.before.before.before.requires
+push-over-requires : tie.Need-push_over-requires
+push-over-requires c κs = under (taken_place R.context 1 _ _ c.in-Place.is c.context.ensures) c.requires
 
 -- src/lib.rt:54:42
-enum_told : tie.Need-enum-told
+enum_told : tie.Need-enum_told-1
 enum_told c = search rules
 
 -- src/lib.rt:48:1
-same_length : tie.Need-same-length
+same_length : tie.Need-shape_of-ws-in-Place
 same_length c = search rules
 
 -- src/lib.rt:48:1
-returns : tie.Need-returns
-returns c = over (deinitializer_node _ _ c.before.before.before.flag.ensures) (taken_place R.context 1 _ _ c.before.before.before.before.before.before.p.given.1 c.before.before.before.before.before.before.before.before.before.before.context.ensures) c.before.before.push-over.ensures
+returns : tie.Need-returns-in-Place
+returns c = over (deinitializer_node _ _ c.flag.ensures) (taken_place R.context 1 _ _ c.in-Place.is c.context.ensures) c.push_over.ensures
 
 -- src/lib.rt:48:1
-same-length-2 : tie.Need-same-length-2
+same-length-2 : tie.Need-shape_of-ws-in-Nothing
 same-length-2 c = search rules
 
 -- src/lib.rt:48:1
-returns-2 : tie.Need-returns-2
-returns-2 c = over_refused R.context _ (taken_not R.context 1 c.enum_told.given.1 c.before.before.before.before.context.ensures)
+returns-2 : tie.Need-returns-in-Nothing
+returns-2 c = over_refused R.context _ (taken_not R.context 1 c.in-Nothing.is c.context.ensures)
 
 pub deinitializer_spec : {M : Type 1} → statement M
 deinitializer_spec =

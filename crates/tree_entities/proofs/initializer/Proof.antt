@@ -10,27 +10,27 @@ use Rattle.tree_entities.proofs.initializer.Statement.{statement}
 use Rattle.tree_entities.proofs.initializer.Tie as tie
 
 -- src/lib.rt:374:11
-initializer-type-requires : tie.Need-initializer-type-requires
+initializer-type-requires : tie.Need-initializer_type-requires
 initializer-type-requires c κs = search rules
 
 -- src/lib.rt:375:22
-enum-known-ty : tie.Need-enum-known-ty
+enum-known-ty : tie.Need-enum_known-ty
 enum-known-ty c = search rules
 
 -- src/lib.rt:375:38
 labels-requires : tie.Need-labels-requires
-labels-requires c κs = (ready_none (after_typed (typed_at (signed_type (R.pop_if K.is_type)) 1 3 _ _ c.before.before.ty.given.1 c.before.before.before.before.before.before.initializer-type.ensures) (omega arith) c.before.before.before.before.before.before.before.before.before.requires), typed_treed (typed_at (signed_type (R.pop_if K.is_type)) 1 3 _ _ c.before.before.ty.given.1 c.before.before.before.before.before.before.initializer-type.ensures) (omega arith) c.before.before.before.before.before.before.before.before.before.requires)
+labels-requires c κs = (ready_none (after_typed (typed_at (signed_type (R.pop_if K.is_type)) 1 3 _ _ c.in-Place.is c.initializer_type.ensures) (omega arith) c.requires), typed_treed (typed_at (signed_type (R.pop_if K.is_type)) 1 3 _ _ c.in-Place.is c.initializer_type.ensures) (omega arith) c.requires)
 
 -- src/lib.rt:376:33
-enum-known-first : tie.Need-enum-known-first
+enum-known-first : tie.Need-enum_known-first
 enum-known-first c = search rules
 
 -- src/lib.rt:376:60
 context-requires : tie.Need-context-requires
-context-requires c κs = ready_none (after_labels (typed_at (signed_type (R.pop_if K.is_type)) 1 3 _ _ c.before.before.before.before.before.before.before.before.before.ty.given.1 c.before.before.before.before.before.before.before.before.before.before.before.before.before.initializer-type.ensures) (omega arith) (labels_at c.before.before.before.before.before.before.labels.ensures _ _ _ c.before.before.first.given.1) c.before.before.before.before.before.before.before.before.before.before.before.before.before.before.before.before.requires)
+context-requires c κs = ready_none (after_labels (typed_at (signed_type (R.pop_if K.is_type)) 1 3 _ _ c.in-Place.is c.initializer_type.ensures) (omega arith) (labels_at c.labels.ensures _ _ _ c.in-Labels.is) c.requires)
 
 -- src/lib.rt:377:31
-enum-known-c : tie.Need-enum-known-c
+enum-known-c : tie.Need-enum_known-c
 enum-known-c c = search rules
 
 -- src/lib.rt:378:65
@@ -38,52 +38,52 @@ flag-requires : tie.Need-flag-requires
 flag-requires c κs = search rules
 
 -- src/lib.rt:378:32
-push-entity-requires : tie.Need-push-entity-requires
-push-entity-requires c κs = (initializer_entity c.before.before.before.before.before.before.before.before.before.before.before.before.before.before.before.before.before.before.before.before.before.before.before.before.args.allocating (typed_at (signed_type (R.pop_if K.is_type)) 1 3 _ _ c.before.before.before.before.before.before.before.before.before.before.before.before.before.before.before.before.before.ty.given.1 c.before.before.before.before.before.before.before.before.before.before.before.before.before.before.before.before.before.before.before.before.before.initializer-type.ensures) (labels_at c.before.before.before.before.before.before.before.before.before.before.before.before.before.before.labels.ensures _ _ _ c.before.before.before.before.before.before.before.before.before.before.first.given.1) c.before.before.before.before.before.before.before.before.before.before.before.before.before.before.before.before.before.before.before.before.before.before.before.before.requires (taken_place R.context 1 _ _ c.before.before.before.c.given.1 c.before.before.before.before.before.before.before.context.ensures), initializer_room c.before.before.before.before.before.before.before.before.before.before.before.before.before.before.before.before.before.before.before.before.before.before.before.before.args.allocating (typed_at (signed_type (R.pop_if K.is_type)) 1 3 _ _ c.before.before.before.before.before.before.before.before.before.before.before.before.before.before.before.before.before.ty.given.1 c.before.before.before.before.before.before.before.before.before.before.before.before.before.before.before.before.before.before.before.before.before.initializer-type.ensures) (labels_at c.before.before.before.before.before.before.before.before.before.before.before.before.before.before.labels.ensures _ _ _ c.before.before.before.before.before.before.before.before.before.before.first.given.1) c.before.before.before.before.before.before.before.before.before.before.before.before.before.before.before.before.before.before.before.before.before.before.before.before.requires (taken_place R.context 1 _ _ c.before.before.before.c.given.1 c.before.before.before.before.before.before.before.context.ensures))
+push-entity-requires : tie.Need-push_entity-requires
+push-entity-requires c κs = (initializer_entity c.args.allocating (typed_at (signed_type (R.pop_if K.is_type)) 1 3 _ _ c.in-Place.is c.initializer_type.ensures) (labels_at c.labels.ensures _ _ _ c.in-Labels.is) c.requires (taken_place R.context 1 _ _ c.in-Place-context.is c.context.ensures), initializer_room c.args.allocating (typed_at (signed_type (R.pop_if K.is_type)) 1 3 _ _ c.in-Place.is c.initializer_type.ensures) (labels_at c.labels.ensures _ _ _ c.in-Labels.is) c.requires (taken_place R.context 1 _ _ c.in-Place-context.is c.context.ensures))
 
 -- src/lib.rt:380:50
-enum_told : tie.Need-enum-told
+enum_told : tie.Need-enum_told-1
 enum_told c = search rules
 
 -- src/lib.rt:382:51
-enum-told-2 : tie.Need-enum-told-2
+enum-told-2 : tie.Need-enum_told-in-Nothing
 enum-told-2 c = search rules
 
 -- src/lib.rt:384:24
-enum-known-r : tie.Need-enum-known-r
+enum-known-r : tie.Need-enum_known-r
 enum-known-r c = search rules
 
 -- src/lib.rt:370:1
-same_length : tie.Need-same-length
-same_length c = (initializer_done c.before.before.before.before.before.before.before.before.before.before.before.before.before.before.before.before.before.before.before.before.before.before.before.before.before.before.before.args.allocating (typed_at (signed_type (R.pop_if K.is_type)) 1 3 _ _ c.before.before.before.before.before.before.before.before.before.before.before.before.before.before.before.before.before.before.before.before.ty.given.1 c.before.before.before.before.before.before.before.before.before.before.before.before.before.before.before.before.before.before.before.before.before.before.before.before.initializer-type.ensures) (labels_at c.before.before.before.before.before.before.before.before.before.before.before.before.before.before.before.before.before.labels.ensures _ _ _ c.before.before.before.before.before.before.before.before.before.before.before.before.before.first.given.1) c.before.before.before.before.before.before.before.before.before.before.before.before.before.before.before.before.before.before.before.before.before.before.before.before.before.before.before.requires (taken_place R.context 1 _ _ c.before.before.before.before.before.before.c.given.1 c.before.before.before.before.before.before.before.before.before.before.context.ensures) _ c.before.before.before.flag.ensures c.before.before.push-entity.ensures).long
+same_length : tie.Need-shape_of-ws-in-Place-context
+same_length c = (initializer_done c.args.allocating (typed_at (signed_type (R.pop_if K.is_type)) 1 3 _ _ c.in-Place.is c.initializer_type.ensures) (labels_at c.labels.ensures _ _ _ c.in-Labels.is) c.requires (taken_place R.context 1 _ _ c.in-Place-context.is c.context.ensures) _ c.flag.ensures c.push_entity.ensures).long
 
 -- src/lib.rt:370:1
-returns : tie.Need-returns
-returns c = initializer_done c.before.before.before.before.before.before.before.before.before.before.before.before.before.before.before.before.before.before.before.before.before.before.before.before.before.before.before.args.allocating (typed_at (signed_type (R.pop_if K.is_type)) 1 3 _ _ c.before.before.before.before.before.before.before.before.before.before.before.before.before.before.before.before.before.before.before.before.ty.given.1 c.before.before.before.before.before.before.before.before.before.before.before.before.before.before.before.before.before.before.before.before.before.before.before.before.initializer-type.ensures) (labels_at c.before.before.before.before.before.before.before.before.before.before.before.before.before.before.before.before.before.labels.ensures _ _ _ c.before.before.before.before.before.before.before.before.before.before.before.before.before.first.given.1) c.before.before.before.before.before.before.before.before.before.before.before.before.before.before.before.before.before.before.before.before.before.before.before.before.before.before.before.requires (taken_place R.context 1 _ _ c.before.before.before.before.before.before.c.given.1 c.before.before.before.before.before.before.before.before.before.before.context.ensures) _ c.before.before.before.flag.ensures c.before.before.push-entity.ensures
+returns : tie.Need-returns-in-Place-context
+returns c = initializer_done c.args.allocating (typed_at (signed_type (R.pop_if K.is_type)) 1 3 _ _ c.in-Place.is c.initializer_type.ensures) (labels_at c.labels.ensures _ _ _ c.in-Labels.is) c.requires (taken_place R.context 1 _ _ c.in-Place-context.is c.context.ensures) _ c.flag.ensures c.push_entity.ensures
 
 -- src/lib.rt:370:1
-same-length-2 : tie.Need-same-length-2
+same-length-2 : tie.Need-shape_of-ws-in-Nothing-context
 same-length-2 c = search rules
 
 -- src/lib.rt:370:1
-returns-2 : tie.Need-returns-2
-returns-2 c = initializer_alone c.before.before.before.before.before.before.before.before.before.before.before.before.before.before.before.before.before.before.before.before.before.args.allocating (typed_at (signed_type (R.pop_if K.is_type)) 1 3 _ _ c.before.before.before.before.before.before.before.before.before.before.before.before.before.before.ty.given.1 c.before.before.before.before.before.before.before.before.before.before.before.before.before.before.before.before.before.before.initializer-type.ensures) (labels_at c.before.before.before.before.before.before.before.before.before.before.before.labels.ensures _ _ _ c.before.before.before.before.before.before.before.first.given.1) c.before.before.before.before.before.before.before.before.before.before.before.before.before.before.before.before.before.before.before.before.before.requires (taken_not R.context 1 c.enum_told.given.1 c.before.before.before.before.context.ensures)
+returns-2 : tie.Need-returns-in-Nothing-context
+returns-2 c = initializer_alone c.args.allocating (typed_at (signed_type (R.pop_if K.is_type)) 1 3 _ _ c.in-Place.is c.initializer_type.ensures) (labels_at c.labels.ensures _ _ _ c.in-Labels.is) c.requires (taken_not R.context 1 c.in-Nothing-context.is c.context.ensures)
 
 -- src/lib.rt:370:1
-same-length-3 : tie.Need-same-length-3
+same-length-3 : tie.Need-shape_of-ws-in-Nothing
 same-length-3 c = search rules
 
 -- src/lib.rt:370:1
-returns-3 : tie.Need-returns-3
-returns-3 c = initializer_labelless c.before.before.before.before.before.before.before.before.before.before.before.before.before.before.args.allocating (typed_at (signed_type (R.pop_if K.is_type)) 1 3 _ _ c.before.before.before.before.before.before.before.ty.given.1 c.before.before.before.before.before.before.before.before.before.before.before.initializer-type.ensures) c.before.before.before.before.before.before.before.before.before.before.before.before.before.before.requires (labels_not c.before.before.before.before.labels.ensures c.enum-told2.given.1)
+returns-3 : tie.Need-returns-in-Nothing
+returns-3 c = initializer_labelless c.args.allocating (typed_at (signed_type (R.pop_if K.is_type)) 1 3 _ _ c.in-Place.is c.initializer_type.ensures) c.requires (labels_not c.labels.ensures c.in-Nothing.is)
 
 -- src/lib.rt:370:1
-same-length-4 : tie.Need-same-length-4
+same-length-4 : tie.Need-shape_of-ws-in-Refused
 same-length-4 c = search rules
 
 -- src/lib.rt:370:1
-returns-4 : tie.Need-returns-4
-returns-4 c = initializer_untyped c.before.before.before.before.before.before.before.before.args.allocating _ (typed_not (signed_type (R.pop_if K.is_type)) 1 3 _ c.before.r.given.1 c.before.before.before.before.before.initializer-type.ensures)
+returns-4 : tie.Need-returns-in-Refused
+returns-4 c = initializer_untyped c.args.allocating _ (typed_not (signed_type (R.pop_if K.is_type)) 1 3 _ c.in-Refused.is c.initializer_type.ensures)
 
 pub initializer_spec : {M : Type 1} → statement M
 initializer_spec =

@@ -10,40 +10,40 @@ use Rattle.tree_entities.proofs.initializer_type.Statement.{statement}
 use Rattle.tree_entities.proofs.initializer_type.Tie as tie
 
 -- src/lib.rt:264:9
-try-signature-requires : tie.Need-try-signature-requires
-try-signature-requires c κs = ready_none c.before.before.requires
+try-signature-requires : tie.Need-try_signature-s-requires
+try-signature-requires c κs = ready_none c.requires
 
 -- src/lib.rt:266:11
-pop-if-requires : tie.Need-pop-if-requires
-pop-if-requires c κs = ready_none (after_signed c.before.try_signature.ensures c.before.before.before.before.requires)
+pop-if-requires : tie.Need-pop_if-requires
+pop-if-requires c κs = ready_none (after_signed c.try_signature-s.ensures c.requires)
 
 -- src/lib.rt:267:23
-enum-known-t : tie.Need-enum-known-t
+enum-known-t : tie.Need-enum_known-t
 enum-known-t c = search rules
 
 -- src/lib.rt:267:32
-under-signature-requires : tie.Need-under-signature-requires
-under-signature-requires c κs = signed_signing c.before.before.before.before.before.before.try_signature.ensures (as_type (taken_place (R.pop_if K.is_type) 3 _ _ c.before.before.t.given.1 c.before.before.before.before.pop_if.ensures.0)) (omega arith) c.before.before.before.before.before.before.before.before.before.requires
+under-signature-requires : tie.Need-under_signature-requires
+under-signature-requires c κs = signed_signing c.try_signature-s.ensures (as_type (taken_place (R.pop_if K.is_type) 3 _ _ c.in-Place.is c.pop_if.ensures.0)) (omega arith) c.requires
 
 -- src/lib.rt:268:43
-enum_told : tie.Need-enum-told
+enum_told : tie.Need-enum_told-1
 enum_told c = search rules
 
 -- src/lib.rt:260:1
-same_length : tie.Need-same-length
+same_length : tie.Need-shape_of-ws-in-Place
 same_length c = search rules
 
 -- src/lib.rt:260:1
-returns : tie.Need-returns
-returns c = signed_typed c.before.before.before.before.before.before.before.before.before.try_signature.ensures (as_type (taken_place (R.pop_if K.is_type) 3 _ _ c.before.before.before.before.before.t.given.1 c.before.before.before.before.before.before.before.pop_if.ensures.0)) _ c.before.before.under_signature.result c.before.before.under_signature.ensures
+returns : tie.Need-returns-in-Place
+returns c = signed_typed c.try_signature-s.ensures (as_type (taken_place (R.pop_if K.is_type) 3 _ _ c.in-Place.is c.pop_if.ensures.0)) _ c.under_signature.result c.under_signature.ensures
 
 -- src/lib.rt:260:1
-same-length-2 : tie.Need-same-length-2
+same-length-2 : tie.Need-shape_of-ws-in-Nothing
 same-length-2 c = search rules
 
 -- src/lib.rt:260:1
-returns-2 : tie.Need-returns-2
-returns-2 c = signed_untyped (R.pop_if K.is_type) 0 3 Refusal.Stack c.before.before.before.before.try_signature.ensures (untyped (taken_not (R.pop_if K.is_type) 3 c.enum_told.given.1 c.before.before.pop_if.ensures.0))
+returns-2 : tie.Need-returns-in-Nothing
+returns-2 c = signed_untyped (R.pop_if K.is_type) 0 3 Refusal.Stack c.try_signature-s.ensures (untyped (taken_not (R.pop_if K.is_type) 3 c.in-Nothing.is c.pop_if.ensures.0))
 
 pub initializer_type_spec : {M : Type 1} → statement M
 initializer_type_spec =

@@ -13,80 +13,80 @@ use Rattle.tree_witnesses.proofs.protocol_witness.Statement.{statement}
 use Rattle.tree_witnesses.proofs.protocol_witness.Tie as tie
 
 -- src/lib.rt:124:11
-pop-if-requires : tie.Need-pop-if-requires
-pop-if-requires c κs = ready_none c.before.before.requires
+pop-if-requires : tie.Need-pop_if-requires
+pop-if-requires c κs = ready_none c.requires
 
 -- src/lib.rt:125:23
-enum-known-entity : tie.Need-enum-known-entity
+enum-known-entity : tie.Need-enum_known-entity
 enum-known-entity c = search rules
 
 -- src/lib.rt:125:43
 conformance-requires : tie.Need-conformance-requires
-conformance-requires c κs = ready_one (omega arith) (after_given (taken_place (R.pop_if K.is_entity) 3 _ _ c.before.before.entity.given.1 c.before.before.before.before.pop_if.ensures.0) c.before.before.before.before.before.before.before.requires)
+conformance-requires c κs = ready_one (omega arith) (after_given (taken_place (R.pop_if K.is_entity) 3 _ _ c.in-Place.is c.pop_if.ensures.0) c.requires)
 
 -- src/lib.rt:126:26
-enum-known-c : tie.Need-enum-known-c
+enum-known-c : tie.Need-enum_known-c
 enum-known-c c = search rules
 
 -- src/lib.rt:127:28
 field-requires : tie.Need-field-requires
-field-requires c κs = (inside_record _ (omega (arith, (taken_place (R.pop_if K.is_entity) 3 _ _ c.before.before.before.before.before.before.before.before.before.entity.given.1 c.before.before.before.before.before.before.before.before.before.before.before.pop_if.ensures.0).below, (built_at R.conformance 1 4 _ _ c.before.before.c.given.1 c.before.before.before.before.before.before.conformance.ensures).rising)) (after_built (spare 18 2 3 1) (built_at R.conformance 1 4 _ _ c.before.before.c.given.1 c.before.before.before.before.before.before.conformance.ensures) (after_given (taken_place (R.pop_if K.is_entity) 3 _ _ c.before.before.before.before.before.before.before.before.before.entity.given.1 c.before.before.before.before.before.before.before.before.before.before.before.pop_if.ensures.0) c.before.before.before.before.before.before.before.before.before.before.before.before.before.before.requires)), omega arith)
+field-requires c κs = (inside_record _ (omega (arith, (taken_place (R.pop_if K.is_entity) 3 _ _ c.in-Place.is c.pop_if.ensures.0).below, (built_at R.conformance 1 4 _ _ c.in-Place-conformance.is c.conformance.ensures).rising)) (after_built (spare 18 2 3 1) (built_at R.conformance 1 4 _ _ c.in-Place-conformance.is c.conformance.ensures) (after_given (taken_place (R.pop_if K.is_entity) 3 _ _ c.in-Place.is c.pop_if.ensures.0) c.requires)), omega arith)
 
 -- src/lib.rt:127:60
-field-requires-2 : tie.Need-field-requires-2
-field-requires-2 c κs = (inside_record _ (built_at R.conformance 1 4 _ _ c.before.before.before.before.c.given.1 c.before.before.before.before.before.before.before.before.conformance.ensures).below (after_built (spare 18 2 3 1) (built_at R.conformance 1 4 _ _ c.before.before.before.before.c.given.1 c.before.before.before.before.before.before.before.before.conformance.ensures) (after_given (taken_place (R.pop_if K.is_entity) 3 _ _ c.before.before.before.before.before.before.before.before.before.before.before.entity.given.1 c.before.before.before.before.before.before.before.before.before.before.before.before.before.pop_if.ensures.0) c.before.before.before.before.before.before.before.before.before.before.before.before.before.before.before.before.requires)), omega arith)
+field-requires-2 : tie.Need-field-requires-in-Place-conformance
+field-requires-2 c κs = (inside_record _ (built_at R.conformance 1 4 _ _ c.in-Place-conformance.is c.conformance.ensures).below (after_built (spare 18 2 3 1) (built_at R.conformance 1 4 _ _ c.in-Place-conformance.is c.conformance.ensures) (after_given (taken_place (R.pop_if K.is_entity) 3 _ _ c.in-Place.is c.pop_if.ensures.0) c.requires)), omega arith)
 
 -- src/lib.rt:127:28
-add-size : tie.Need-overflow-add-size
-add-size c = record { fits = omega (arith, entity_small (taken_place (R.pop_if K.is_entity) 3 _ _ c.before.before.before.before.before.before.before.before.before.before.before.before.entity.given.1 c.before.before.before.before.before.before.before.before.before.before.before.before.before.before.pop_if.ensures.0) (built_at R.conformance 1 4 _ _ c.before.before.before.before.before.c.given.1 c.before.before.before.before.before.before.before.before.before.conformance.ensures), (built_at R.conformance 1 4 _ _ c.before.before.before.before.before.c.given.1 c.before.before.before.before.before.before.before.before.before.conformance.ensures).small, c.before.before.field.ensures, c.field2.ensures) }
+add-size : tie.Need-overflow_add-size
+add-size c = record { fits = omega (arith, entity_small (taken_place (R.pop_if K.is_entity) 3 _ _ c.in-Place.is c.pop_if.ensures.0) (built_at R.conformance 1 4 _ _ c.in-Place-conformance.is c.conformance.ensures), (built_at R.conformance 1 4 _ _ c.in-Place-conformance.is c.conformance.ensures).small, c.field.ensures, c.field-in-Place-conformance.ensures) }
 
 -- src/lib.rt:129:24
-cast-push-new : tie.Need-overflow-cast-push-new
-cast-push-new c = record { fits = small_place _ (omega (arith, (taken_place (R.pop_if K.is_entity) 3 _ _ c.before.before.before.before.before.before.before.before.before.before.before.before.entity.given.1 c.before.before.before.before.before.before.before.before.before.before.before.before.before.before.pop_if.ensures.0).below, (built_at R.conformance 1 4 _ _ c.before.before.before.before.before.c.given.1 c.before.before.before.before.before.before.before.before.before.conformance.ensures).rising)) (after_built (spare 18 2 3 1) (built_at R.conformance 1 4 _ _ c.before.before.before.before.before.c.given.1 c.before.before.before.before.before.before.before.before.before.conformance.ensures) (after_given (taken_place (R.pop_if K.is_entity) 3 _ _ c.before.before.before.before.before.before.before.before.before.before.before.before.entity.given.1 c.before.before.before.before.before.before.before.before.before.before.before.before.before.before.pop_if.ensures.0) c.before.before.before.before.before.before.before.before.before.before.before.before.before.before.before.before.before.requires)) }
+cast-push-new : tie.Need-overflow_cast-rest
+cast-push-new c = record { fits = small_place _ (omega (arith, (taken_place (R.pop_if K.is_entity) 3 _ _ c.in-Place.is c.pop_if.ensures.0).below, (built_at R.conformance 1 4 _ _ c.in-Place-conformance.is c.conformance.ensures).rising)) (after_built (spare 18 2 3 1) (built_at R.conformance 1 4 _ _ c.in-Place-conformance.is c.conformance.ensures) (after_given (taken_place (R.pop_if K.is_entity) 3 _ _ c.in-Place.is c.pop_if.ensures.0) c.requires)) }
 
 -- src/lib.rt:130:24
-cast-t23 : tie.Need-overflow-cast-t23
-cast-t23 c = record { fits = small_place _ (built_at R.conformance 1 4 _ _ c.before.before.before.before.before.c.given.1 c.before.before.before.before.before.before.before.before.before.conformance.ensures).below (after_built (spare 18 2 3 1) (built_at R.conformance 1 4 _ _ c.before.before.before.before.before.c.given.1 c.before.before.before.before.before.before.before.before.before.conformance.ensures) (after_given (taken_place (R.pop_if K.is_entity) 3 _ _ c.before.before.before.before.before.before.before.before.before.before.before.before.entity.given.1 c.before.before.before.before.before.before.before.before.before.before.before.before.before.before.pop_if.ensures.0) c.before.before.before.before.before.before.before.before.before.before.before.before.before.before.before.before.before.requires)) }
+cast-t23 : tie.Need-overflow_cast-rest-in-Place-conformance
+cast-t23 c = record { fits = small_place _ (built_at R.conformance 1 4 _ _ c.in-Place-conformance.is c.conformance.ensures).below (after_built (spare 18 2 3 1) (built_at R.conformance 1 4 _ _ c.in-Place-conformance.is c.conformance.ensures) (after_given (taken_place (R.pop_if K.is_entity) 3 _ _ c.in-Place.is c.pop_if.ensures.0) c.requires)) }
 
 -- src/lib.rt:135:58
-add-push-new : tie.Need-overflow-add-push-new
-add-push-new c = record { fits = omega (arith, entity_small (taken_place (R.pop_if K.is_entity) 3 _ _ c.before.before.before.before.before.before.before.before.before.before.before.before.before.entity.given.1 c.before.before.before.before.before.before.before.before.before.before.before.before.before.before.before.pop_if.ensures.0) (built_at R.conformance 1 4 _ _ c.before.before.before.before.before.before.c.given.1 c.before.before.before.before.before.before.before.before.before.before.conformance.ensures), (built_at R.conformance 1 4 _ _ c.before.before.before.before.before.before.c.given.1 c.before.before.before.before.before.before.before.before.before.before.conformance.ensures).small, c.before.before.before.field.ensures, c.before.field2.ensures) }
+add-push-new : tie.Need-overflow_add-size-in-Place-conformance
+add-push-new c = record { fits = omega (arith, entity_small (taken_place (R.pop_if K.is_entity) 3 _ _ c.in-Place.is c.pop_if.ensures.0) (built_at R.conformance 1 4 _ _ c.in-Place-conformance.is c.conformance.ensures), (built_at R.conformance 1 4 _ _ c.in-Place-conformance.is c.conformance.ensures).small, c.field.ensures, c.field-in-Place-conformance.ensures) }
 
 -- src/lib.rt:135:28
-push-new-requires : tie.Need-push-new-requires
-push-new-requires c κs = room (omega arith) (omega arith) (omega arith) (after_built (spare 18 2 3 1) (built_at R.conformance 1 4 _ _ c.before.before.before.before.before.before.c.given.1 c.before.before.before.before.before.before.before.before.before.before.conformance.ensures) (after_given (taken_place (R.pop_if K.is_entity) 3 _ _ c.before.before.before.before.before.before.before.before.before.before.before.before.before.entity.given.1 c.before.before.before.before.before.before.before.before.before.before.before.before.before.before.before.pop_if.ensures.0) c.before.before.before.before.before.before.before.before.before.before.before.before.before.before.before.before.before.before.requires))
+push-new-requires : tie.Need-push_new-requires
+push-new-requires c κs = room (omega arith) (omega arith) (omega arith) (after_built (spare 18 2 3 1) (built_at R.conformance 1 4 _ _ c.in-Place-conformance.is c.conformance.ensures) (after_given (taken_place (R.pop_if K.is_entity) 3 _ _ c.in-Place.is c.pop_if.ensures.0) c.requires))
 
 -- src/lib.rt:137:28
-enum-known-r : tie.Need-enum-known-r
+enum-known-r : tie.Need-enum_known-r
 enum-known-r c = search rules
 
 -- src/lib.rt:139:42
-enum_told : tie.Need-enum-told
+enum_told : tie.Need-enum_told-1
 enum_told c = search rules
 
 -- src/lib.rt:120:1
-same_length : tie.Need-same-length
+same_length : tie.Need-shape_of-ws-in-Place-conformance
 same_length c = search rules
 
 -- src/lib.rt:120:1
-returns : tie.Need-returns
-returns c = witness_left _ (taken_place (R.pop_if K.is_entity) 3 _ _ c.before.before.before.before.before.before.before.before.before.before.before.before.before.before.before.before.entity.given.1 c.before.before.before.before.before.before.before.before.before.before.before.before.before.before.before.before.before.before.pop_if.ensures.0) (built_at R.conformance 1 4 _ _ c.before.before.before.before.before.before.before.before.before.c.given.1 c.before.before.before.before.before.before.before.before.before.before.before.before.before.conformance.ensures) (ap (λ (i : ℕ). i + 1) (add_both c.before.before.before.before.before.before.field.ensures c.before.before.before.before.field2.ensures)) c.before.before.push-new.ensures
+returns : tie.Need-returns-in-Place-conformance
+returns c = witness_left _ (taken_place (R.pop_if K.is_entity) 3 _ _ c.in-Place.is c.pop_if.ensures.0) (built_at R.conformance 1 4 _ _ c.in-Place-conformance.is c.conformance.ensures) (ap (λ (i : ℕ). i + 1) (add_both c.field.ensures c.field-in-Place-conformance.ensures)) c.push_new.ensures
 
 -- src/lib.rt:120:1
-same-length-2 : tie.Need-same-length-2
+same-length-2 : tie.Need-shape_of-ws-in-Refused
 same-length-2 c = search rules
 
 -- src/lib.rt:120:1
-returns-2 : tie.Need-returns-2
-returns-2 c = witness_second _ (taken_place (R.pop_if K.is_entity) 3 _ _ c.before.before.before.before.before.before.before.before.entity.given.1 c.before.before.before.before.before.before.before.before.before.before.pop_if.ensures.0) (built_not R.conformance 1 4 _ c.before.r.given.1 c.before.before.before.before.before.conformance.ensures)
+returns-2 : tie.Need-returns-in-Refused
+returns-2 c = witness_second _ (taken_place (R.pop_if K.is_entity) 3 _ _ c.in-Place.is c.pop_if.ensures.0) (built_not R.conformance 1 4 _ c.in-Refused.is c.conformance.ensures)
 
 -- src/lib.rt:120:1
-same-length-3 : tie.Need-same-length-3
+same-length-3 : tie.Need-shape_of-ws-in-Nothing
 same-length-3 c = search rules
 
 -- src/lib.rt:120:1
-returns-3 : tie.Need-returns-3
-returns-3 c = witness_first (taken_not (R.pop_if K.is_entity) 3 c.enum_told.given.1 c.before.before.pop_if.ensures.0)
+returns-3 : tie.Need-returns-in-Nothing
+returns-3 c = witness_first (taken_not (R.pop_if K.is_entity) 3 c.in-Nothing.is c.pop_if.ensures.0)
 
 pub protocol_witness_spec : {M : Type 1} → statement M
 protocol_witness_spec =

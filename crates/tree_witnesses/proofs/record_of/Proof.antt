@@ -11,39 +11,39 @@ use Rattle.tree_witnesses.proofs.record_of.Tie as tie
 
 -- src/lib.rt:79:11
 about-requires : tie.Need-about-requires
-about-requires c κs = ready_one (omega arith) c.before.before.requires
+about-requires c κs = ready_one (omega arith) c.requires
 
 -- src/lib.rt:80:22
-enum-known-p : tie.Need-enum-known-p
+enum-known-p : tie.Need-enum_known-p
 enum-known-p c = search rules
 
 -- src/lib.rt:80:70
-fixed-number-requires : tie.Need-fixed-number-requires
+fixed-number-requires : tie.Need-fixed_number-requires
 fixed-number-requires c κs = search rules
 
 -- src/lib.rt:80:42
-push-record-requires : tie.Need-push-record-requires
-push-record-requires c κs = under_built (built_at (R.about (Enums.about c.before.before.before.before.before.before.before.before.before.before.args.what)) 1 1 _ _ c.before.before.before.p.given.1 c.before.before.before.before.before.before.before.about.ensures) c.before.before.before.before.before.before.before.before.before.before.requires
+push-record-requires : tie.Need-push_record-requires
+push-record-requires c κs = under_built (built_at (R.about (Enums.about c.args.what)) 1 1 _ _ c.in-Place.is c.about.ensures) c.requires
 
 -- src/lib.rt:81:24
-enum-known-r : tie.Need-enum-known-r
+enum-known-r : tie.Need-enum_known-r
 enum-known-r c = search rules
 
 -- src/lib.rt:75:1
-same_length : tie.Need-same-length
+same_length : tie.Need-shape_of-ws-in-Place
 same_length c = search rules
 
 -- src/lib.rt:75:1
-returns : tie.Need-returns
-returns c = recorded (R.about (Enums.about c.before.before.before.before.before.before.before.before.before.before.before.before.before.args.what)) (λ s. bytes (s c.before.before.before.before.before.before.before.before.before.before.before.before.before.args.name)) _ _ _ (built_at (R.about (Enums.about c.before.before.before.before.before.before.before.before.before.before.before.before.before.args.what)) 1 1 _ _ c.before.before.before.before.before.before.p.given.1 c.before.before.before.before.before.before.before.before.before.before.about.ensures) (λ nm i. fixed_words (c.before.before.before.fixed_number.ensures nm i)) c.before.before.push-record.ensures
+returns : tie.Need-returns-in-Place
+returns c = recorded (R.about (Enums.about c.args.what)) (λ s. bytes (s c.args.name)) _ _ _ (built_at (R.about (Enums.about c.args.what)) 1 1 _ _ c.in-Place.is c.about.ensures) (λ nm i. fixed_words (c.fixed_number.ensures nm i)) c.push_record.ensures
 
 -- src/lib.rt:75:1
-same-length-2 : tie.Need-same-length-2
+same-length-2 : tie.Need-shape_of-ws-in-Refused
 same-length-2 c = search rules
 
 -- src/lib.rt:75:1
-returns-2 : tie.Need-returns-2
-returns-2 c = first_refused (R.about (Enums.about c.before.before.before.before.before.before.before.before.args.what)) (λ s x. push (Record (bytes (s c.before.before.before.before.before.before.before.before.args.name)) x)) _ (built_not (R.about (Enums.about c.before.before.before.before.before.before.before.before.args.what)) 1 1 _ c.before.r.given.1 c.before.before.before.before.before.about.ensures)
+returns-2 : tie.Need-returns-in-Refused
+returns-2 c = first_refused (R.about (Enums.about c.args.what)) (λ s x. push (Record (bytes (s c.args.name)) x)) _ (built_not (R.about (Enums.about c.args.what)) 1 1 _ c.in-Refused.is c.about.ensures)
 
 pub record_of_spec : {M : Type 1} → statement M
 record_of_spec =

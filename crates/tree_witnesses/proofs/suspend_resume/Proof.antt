@@ -12,10 +12,10 @@ use Rattle.tree_witnesses.proofs.suspend_resume.Tie as tie
 
 -- src/lib.rt:90:11
 about-requires : tie.Need-about-requires
-about-requires c κs = ready_one (omega arith) c.before.before.requires
+about-requires c κs = ready_one (omega arith) c.requires
 
 -- src/lib.rt:91:22
-enum-known-p : tie.Need-enum-known-p
+enum-known-p : tie.Need-enum_known-p
 enum-known-p c = search rules
 
 -- src/lib.rt:91:70
@@ -27,30 +27,30 @@ high-requires : tie.Need-high-requires
 high-requires c κs = search rules
 
 -- src/lib.rt:91:42
-push-record-requires : tie.Need-push-record-requires
-push-record-requires c κs = under_built (built_at (R.about (Enums.about About.Entity)) 1 1 _ _ c.before.before.before.before.p.given.1 c.before.before.before.before.before.before.before.before.about.ensures) c.before.before.before.before.before.before.before.before.before.before.before.requires
+push-record-requires : tie.Need-push_record-requires
+push-record-requires c κs = under_built (built_at (R.about (Enums.about About.Entity)) 1 1 _ _ c.in-Place.is c.about.ensures) c.requires
 
 -- src/lib.rt:92:24
-enum-known-r : tie.Need-enum-known-r
+enum-known-r : tie.Need-enum_known-r
 enum-known-r c = search rules
 
 -- src/lib.rt:86:1
-same_length : tie.Need-same-length
+same_length : tie.Need-shape_of-ws-in-Place
 same_length c = search rules
 
 -- src/lib.rt:86:1
-returns : tie.Need-returns
+returns : tie.Need-returns-in-Place
 unfolding Enums.about
-returns c = recorded (R.about (Enums.about About.Entity)) (λ s. Op.suspend_resume_text c.before.before.before.before.before.before.before.before.before.before.before.before.before.before.args.i) _ _ _ (built_at (R.about (Enums.about About.Entity)) 1 1 _ _ c.before.before.before.before.before.before.before.p.given.1 c.before.before.before.before.before.before.before.before.before.before.before.about.ensures) (λ nm i. numbered_words c.before.before.before.before.before.before.before.before.before.before.before.before.before.before.args.i c.before.before.before.before.low.ensures c.before.before.before.high.ensures) c.before.before.push-record.ensures
+returns c = recorded (R.about (Enums.about About.Entity)) (λ s. Op.suspend_resume_text c.args.i) _ _ _ (built_at (R.about (Enums.about About.Entity)) 1 1 _ _ c.in-Place.is c.about.ensures) (λ nm i. numbered_words c.args.i c.low.ensures c.high.ensures) c.push_record.ensures
 
 -- src/lib.rt:86:1
-same-length-2 : tie.Need-same-length-2
+same-length-2 : tie.Need-shape_of-ws-in-Refused
 same-length-2 c = search rules
 
 -- src/lib.rt:86:1
-returns-2 : tie.Need-returns-2
+returns-2 : tie.Need-returns-in-Refused
 unfolding Enums.about
-returns-2 c = first_refused (R.about (Enums.about About.Entity)) (λ s x. push (Record (Op.suspend_resume_text c.before.before.before.before.before.before.before.before.args.i) x)) _ (built_not (R.about (Enums.about About.Entity)) 1 1 _ c.before.r.given.1 c.before.before.before.before.before.about.ensures)
+returns-2 c = first_refused (R.about (Enums.about About.Entity)) (λ s x. push (Record (Op.suspend_resume_text c.args.i) x)) _ (built_not (R.about (Enums.about About.Entity)) 1 1 _ c.in-Refused.is c.about.ensures)
 
 pub suspend_resume_spec : {M : Type 1} → statement M
 suspend_resume_spec =

@@ -8,12 +8,14 @@ wrapped-requires : tie.Need-wrapped-requires
 wrapped-requires c κs = search rules
 
 -- src/lib.rt:199:1
-same_length : tie.Need-same-length
+same_length : tie.Need-shape_of-ws
 same_length c = search rules
 
 -- src/lib.rt:199:1
 returns : tie.Need-returns
-returns c = c.before.before.wrapped.ensures _ in_out_node
+returns c = c.wrapped.ensures _ in_out_node
 
 pub in_out_spec : {M : Type 1} → statement M
-in_out_spec = tie.close (tie.spec wrapped-requires same_length returns)
+in_out_spec = tie.close (tie.spec wrapped-requires
+    same_length
+    returns)

@@ -13,30 +13,30 @@ wrap-requires : tie.Need-wrap-requires
 wrap-requires c κs = search rules
 
 -- src/lib.rt:193:25
-enum-known-u : tie.Need-enum-known-u
+enum-known-u : tie.Need-enum_known-u
 enum-known-u c = search rules
 
 -- src/lib.rt:193:31
-one-child-requires : tie.Need-one-child-requires
-one-child-requires c κs = after_wrap (wrapped_next _ c.before.before.u.given.1 c.before.before.before.before.wrap.ensures _ _) c.before.before.before.before.before.before.requires
+one-child-requires : tie.Need-one_child-requires
+one-child-requires c κs = after_wrap (wrapped_next _ c.in-Next.is c.wrap.ensures _ _) c.requires
 
 -- src/lib.rt:194:45
-enum_told : tie.Need-enum-told
+enum_told : tie.Need-enum_told-1
 enum_told c = search rules
 
 -- src/lib.rt:188:1
-same_length : tie.Need-same-length
+same_length : tie.Need-shape_of-ws
 same_length c = search rules
 
 -- src/lib.rt:188:1
-returns : tie.Need-returns
+returns : tie.Need-returns-in-Next
 unfolding R.wrapped
-returns c f o = wrapped_then (over K.is_type f) _ (wrapped_next _ c.before.before.before.before.before.u.given.1 c.before.before.before.before.before.before.before.wrap.ensures _ _) (c.before.before.one_child.ensures f o)
+returns c f o = wrapped_then (over K.is_type f) _ (wrapped_next _ c.in-Next.is c.wrap.ensures _ _) (c.one_child.ensures f o)
 
 -- src/lib.rt:188:1
-returns-2 : tie.Need-returns-2
+returns-2 : tie.Need-returns-in-Refused
 unfolding R.wrapped
-returns-2 c f o = wrapped_refused (over K.is_type f) (wrapped_not c.enum_told.given.1 c.before.before.wrap.ensures _ _)
+returns-2 c f o = wrapped_refused (over K.is_type f) (wrapped_not c.in-Refused.is c.wrap.ensures _ _)
 
 pub wrapped_spec : {M : Type 1} → statement M
 wrapped_spec =

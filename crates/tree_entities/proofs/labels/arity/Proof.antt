@@ -10,7 +10,7 @@ field-requires : tie.Need-field-requires
 field-requires c κs = search rules
 
 -- src/lib.rt:96:43
-field-requires-2 : tie.Need-field-requires-2
+field-requires-2 : tie.Need-field-requires-then-field-eq11
 field-requires-2 c κs = search rules
 
 -- src/lib.rt:96:29
@@ -18,20 +18,20 @@ wide-requires : tie.Need-wide-requires
 wide-requires c κs = search rules
 
 -- src/lib.rt:96:9
-arity-of-requires : tie.Need-arity-of-requires
-arity-of-requires c κs = omega (arith, inner_inside c.before.before.before.before.before.requires.1 c.before.before.before.before.before.requires.0 (sym c.before.before.before.field.ensures ∙ c.before.before.if1.true), c.before.field2.ensures, c.wide.ensures)
+arity-of-requires : tie.Need-arity_of-requires
+arity-of-requires c κs = omega (arith, inner_inside c.requires.1 c.requires.0 (sym c.field.ensures ∙ c.if-field-eq11.true), c.field-then-field-eq11.ensures, c.wide.ensures)
 
 -- src/lib.rt:96:9
-returns : tie.Need-returns
-returns c nm x l = arity_inner nm c.before.before.before.before.before.before.args.ws.now c.before.before.before.before.before.before.args.ty x l _ (sym c.before.before.before.before.field.ensures ∙ c.before.before.before.if1.true) (λ nm' y h. c.arity_of.ensures nm' y (rw (c.before.wide.ensures.0, c.before.before.field2.ensures) h))
+returns : tie.Need-returns-then-field-eq11
+returns c nm x l = arity_inner nm c.args.ws.now c.args.ty x l _ (sym c.field.ensures ∙ c.if-field-eq11.true) (λ nm' y h. c.arity_of.ensures nm' y (rw (c.wide.ensures.0, c.field-then-field-eq11.ensures) h))
 
 -- src/lib.rt:98:5
-arity-of-requires-2 : tie.Need-arity-of-requires-2
+arity-of-requires-2 : tie.Need-arity_of-requires-2
 arity-of-requires-2 c κs = search rules
 
 -- src/lib.rt:90:1
-returns-2 : tie.Need-returns-2
-returns-2 c nm x l = arity_itself nm c.before.before.before.before.args.ws.now c.before.before.before.before.args.ty x l _ (λ e. c.before.if1.false (c.before.before.field.ensures ∙ e)) (c.arity-of2.ensures nm x l)
+returns-2 : tie.Need-returns
+returns-2 c nm x l = arity_itself nm c.args.ws.now c.args.ty x l _ (λ e. c.if-field-eq11.false (c.field.ensures ∙ e)) (c.arity_of-2.ensures nm x l)
 
 pub arity_spec : {M : Type 1} → statement M
 arity_spec =

@@ -9,16 +9,19 @@ field-requires : tie.Need-field-requires
 field-requires c κs = search rules
 
 -- src/lib.rt:84:9
-field-requires-2 : tie.Need-field-requires-2
+field-requires-2 : tie.Need-field-requires-then-field-eq10
 field-requires-2 c κs = search rules
 
 -- src/lib.rt:84:9
-returns : tie.Need-returns
-returns c nm x l = c.field2.ensures ∙ arity_counted nm c.before.before.before.before.args.ws.now c.before.before.before.before.args.p x l (sym c.before.before.field.ensures ∙ c.before.if1.true)
+returns : tie.Need-returns-then-field-eq10
+returns c nm x l = c.field-then-field-eq10.ensures ∙ arity_counted nm c.args.ws.now c.args.p x l (sym c.field.ensures ∙ c.if-field-eq10.true)
 
 -- src/lib.rt:79:1
-returns-2 : tie.Need-returns-2
-returns-2 c nm x l = arity_none nm c.before.before.before.args.ws.now c.before.before.before.args.p x l (λ e. c.if1.false (c.before.field.ensures ∙ e))
+returns-2 : tie.Need-returns
+returns-2 c nm x l = arity_none nm c.args.ws.now c.args.p x l (λ e. c.if-field-eq10.false (c.field.ensures ∙ e))
 
 pub arity_of_spec : {M : Type 1} → statement M
-arity_of_spec = tie.close (tie.spec field-requires field-requires-2 returns returns-2)
+arity_of_spec = tie.close (tie.spec field-requires
+    field-requires-2
+    returns
+    returns-2)

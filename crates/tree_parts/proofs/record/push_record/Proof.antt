@@ -4,30 +4,35 @@ use Rattle.tree_parts.proofs.record.push_record.Statement.{statement}
 use Rattle.tree_parts.proofs.record.push_record.Tie as tie
 
 -- src/lib.rt:63:9
-field-requires : tie.Need-field-requires
+field-requires : tie.Need-field-size-requires
 field-requires c κs = search rules
 
 -- src/lib.rt:66:12
-cast-push-new : tie.Need-overflow-cast-push-new
+cast-push-new : tie.Need-overflow_cast-rest
 cast-push-new c = search rules
 
 -- src/lib.rt:71:36
-add-push-new : tie.Need-overflow-add-push-new
+add-push-new : tie.Need-overflow_add-size
 add-push-new c = search rules
 
 -- src/lib.rt:71:5
-push-new-requires : tie.Need-push-new-requires
+push-new-requires : tie.Need-push_new-requires
 push-new-requires c κs = search rules
 
 -- src/lib.rt:59:1
-same_length : tie.Need-same-length
+same_length : tie.Need-shape_of-ws
 same_length c = search rules
 
 -- src/lib.rt:59:1
 returns : tie.Need-returns
-returns c = left_sized c.before.before.before.before.field.ensures c.before.before.push-new.ensures
+returns c = left_sized c.field-size.ensures c.push_new.ensures
 
 pub push_record_spec : {M : Type 1} → statement M
 push_record_spec =
     tie.close
-    (tie.spec field-requires cast-push-new add-push-new push-new-requires same_length returns)
+    (tie.spec field-requires
+    cast-push-new
+    add-push-new
+    push-new-requires
+    same_length
+    returns)

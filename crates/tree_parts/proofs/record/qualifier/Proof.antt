@@ -9,44 +9,44 @@ use Rattle.tree_parts.proofs.record.qualifier.Statement.{statement}
 use Rattle.tree_parts.proofs.record.qualifier.Tie as tie
 
 -- src/lib.rt:174:11
-pop-if-requires : tie.Need-pop-if-requires
+pop-if-requires : tie.Need-pop_if-requires
 pop-if-requires c κs = search rules
 
 -- src/lib.rt:175:23
-enum-known-p : tie.Need-enum-known-p
+enum-known-p : tie.Need-enum_known-p
 enum-known-p c = search rules
 
 -- src/lib.rt:176:24
-cast-cell : tie.Need-overflow-cast-cell
-cast-cell c = record { fits = top_small (after_tried (tried (R.try K.is_protocol) _ _ c.before.before.p.given.1 c.before.before.before.before.pop_if.ensures.1) c.before.before.before.before.before.before.before.requires) }
+cast-cell : tie.Need-overflow_cast-cell
+cast-cell c = record { fits = top_small (after_tried (tried (R.try K.is_protocol) _ _ c.in-Place.is c.pop_if.ensures.1) c.requires) }
 
 -- src/lib.rt:179:20
-cast-t13 : tie.Need-overflow-cast-t13
-cast-t13 c = record { fits = small_place _ (tried (R.try K.is_protocol) _ _ c.before.before.p.given.1 c.before.before.before.before.pop_if.ensures.1).below (after_tried (tried (R.try K.is_protocol) _ _ c.before.before.p.given.1 c.before.before.before.before.pop_if.ensures.1) c.before.before.before.before.before.before.before.requires) }
+cast-t13 : tie.Need-overflow_cast-rest
+cast-t13 c = record { fits = small_place _ (tried (R.try K.is_protocol) _ _ c.in-Place.is c.pop_if.ensures.1).below (after_tried (tried (R.try K.is_protocol) _ _ c.in-Place.is c.pop_if.ensures.1) c.requires) }
 
 -- src/lib.rt:187:23
 grow-requires : tie.Need-grow-requires
-grow-requires c κs = room (omega arith) (omega arith) (omega arith) (after_tried (tried (R.try K.is_protocol) _ _ c.before.before.before.p.given.1 c.before.before.before.before.before.pop_if.ensures.1) c.before.before.before.before.before.before.before.before.requires)
+grow-requires c κs = room (omega arith) (omega arith) (omega arith) (after_tried (tried (R.try K.is_protocol) _ _ c.in-Place.is c.pop_if.ensures.1) c.requires)
 
 -- src/lib.rt:190:28
-enum_told : tie.Need-enum-told
+enum_told : tie.Need-enum_told-1
 enum_told c = search rules
 
 -- src/lib.rt:170:1
-same_length : tie.Need-same-length
+same_length : tie.Need-shape_of-ws-in-Place
 same_length c = search rules
 
 -- src/lib.rt:170:1
-returns : tie.Need-returns
-returns c = qualifier_there (tried (R.try K.is_protocol) _ _ c.before.before.before.before.before.before.p.given.1 c.before.before.before.before.before.before.before.before.pop_if.ensures.1) c.before.before.grow.ensures
+returns : tie.Need-returns-in-Place
+returns c = qualifier_there (tried (R.try K.is_protocol) _ _ c.in-Place.is c.pop_if.ensures.1) c.grow.ensures
 
 -- src/lib.rt:170:1
-same-length-2 : tie.Need-same-length-2
+same-length-2 : tie.Need-shape_of-ws-in-Nothing
 same-length-2 c = search rules
 
 -- src/lib.rt:170:1
-returns-2 : tie.Need-returns-2
-returns-2 c = qualifier_missing (tried_nothing (R.try K.is_protocol) c.enum_told.given.1 c.before.before.pop_if.ensures.1)
+returns-2 : tie.Need-returns-in-Nothing
+returns-2 c = qualifier_missing (tried_nothing (R.try K.is_protocol) c.in-Nothing.is c.pop_if.ensures.1)
 
 pub qualifier_spec : {M : Type 1} → statement M
 qualifier_spec =
