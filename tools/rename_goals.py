@@ -105,7 +105,7 @@ class Names:
             callee = self.callees[at]
             if self.level(seek) and not self.inner(seek):
                 final = at
-            if step[0] and norm(step[0]) in (norm(fields[0]), norm(fields[0].replace("_lem", ""))):
+            if step[0] and norm(step[0]).lower() in (norm(fields[0]).lower(), norm(fields[0].replace("_lem", "")).lower()):
                 rest = fields[1:]
                 if self.arms[at] and final is not None and self.arms[final][0] == self.arms[at][0]:
                     best = None

@@ -1,5 +1,6 @@
 // The form of a record, with its sugar, and the row of pieces that is printed for it.
 #![tactic(auto)]
+
 ghost use Rattle.std.specs.Prelude.{◌≡◌, false, ◌+◌, ◌<◌, get_or};
 ghost use Rattle.text_words.specs.Table.{lent};
 ghost use Rattle.tree_records.specs.Lies.{at as field_of};

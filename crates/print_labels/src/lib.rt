@@ -1,5 +1,6 @@
 // The labels that the printer shows before arguments.
 #![tactic(auto)]
+
 ghost use Rattle.std.specs.Prelude.{◌≡◌, ◌+◌, ◌*◌, ◌≤◌, ◌<◌, ◌^◌, length};
 ghost use Rattle.text_output.specs.Sink.{Room};
 ghost use Rattle.text_words.specs.Table.{lent};

@@ -4,6 +4,7 @@
 // by the form of the record and appends its pieces. specs/RowTexts.antt of `print_labels` says what
 // each code represents.
 #![tactic(auto)]
+
 ghost use Rattle.std.specs.Prelude.{◌≡◌, true, false, ◌+◌, ◌*◌, ◌≤◌, ◌<◌, ◌^◌, length};
 ghost use Rattle.text_output.specs.Sink.{Room, Wrote};
 ghost use Rattle.text_words.specs.Table.{lent};
@@ -166,7 +167,7 @@ fn place_of(ws: &[u32], p: usize, code: usize) -> usize
 }
 
 // Appends the text of the tree at place p.
-#[cycle(print_print_behind_print_cell_print_cells_print_params_print_plain_print_signed)]
+#[cycle(printing)]
 pub fn print(
     out: &mut [u8],
     at: usize,
@@ -209,7 +210,7 @@ pub fn print(
 }
 
 // Appends a piece of the record at place p.
-#[cycle(print_print_behind_print_cell_print_cells_print_params_print_plain_print_signed)]
+#[cycle(printing)]
 fn print_plain(
     out: &mut [u8],
     at: usize,
@@ -264,7 +265,7 @@ fn print_plain(
 
 // Appends the elements of a list. Its first cell is at the place in a field of the record at place
 // p.
-#[cycle(print_print_behind_print_cell_print_cells_print_params_print_plain_print_signed)]
+#[cycle(printing)]
 fn print_cells(
     out: &mut [u8],
     at: usize,
@@ -310,7 +311,7 @@ fn print_cells(
 }
 
 // Appends the element in the cell at place p, preceded by the separator and its label.
-#[cycle(print_print_behind_print_cell_print_cells_print_params_print_plain_print_signed)]
+#[cycle(printing)]
 fn print_cell(
     out: &mut [u8],
     at: usize,
@@ -341,7 +342,7 @@ fn print_cell(
 }
 
 // Appends the parameters of a function in parentheses, with its labels.
-#[cycle(print_print_behind_print_cell_print_cells_print_params_print_plain_print_signed)]
+#[cycle(printing)]
 fn print_params(
     out: &mut [u8],
     at: usize,
@@ -379,7 +380,7 @@ fn print_params(
 
 // Appends the type of a function or initializer after its name. A signature is first, if there is
 // one.
-#[cycle(print_print_behind_print_cell_print_cells_print_params_print_plain_print_signed)]
+#[cycle(printing)]
 fn print_signed(
     out: &mut [u8],
     at: usize,
@@ -409,7 +410,7 @@ fn print_signed(
 }
 
 // Appends the type of a function or initializer after its name and signature.
-#[cycle(print_print_behind_print_cell_print_cells_print_params_print_plain_print_signed)]
+#[cycle(printing)]
 fn print_behind(
     out: &mut [u8],
     at: usize,

@@ -23,7 +23,7 @@ same_length c = search rules
 
 returns : tie.Need-returns-then-remembers
 unfolding row_leaves
-returns c = left_remembered c.args.ceiling c.args.ws.now c.args.st c.args.copies c.left_by-e.ensures c.put_on.new.0 (sym c.remembers.ensures ∙ c.if-remembers.true) c.remember-kept.ensures.wrote c.put_on.result c.put_on.ensures
+returns c = left_remembered c.args.ceiling c.args.ws.now c.args.st c.args.copies c.left_by-e.ensures c.put_on.new.ws (sym c.remembers.ensures ∙ c.if-remembers.true) c.remember-kept.ensures.wrote c.put_on.result c.put_on.ensures
 
 put-on-requires-2 : tie.Need-put_on-requires-2
 put-on-requires-2 c κs = search rules
@@ -33,7 +33,7 @@ same-length-2 c = search rules
 
 returns-2 : tie.Need-returns
 unfolding row_leaves
-returns-2 c = left_plain c.args.ceiling c.args.ws.now c.args.st c.args.copies c.left_by-e.ensures c.put_on-2.new.0 (sym c.remembers.ensures ∙ c.if-remembers.false) c.put_on-2.result c.put_on-2.ensures
+returns-2 c = left_plain c.args.ceiling c.args.ws.now c.args.st c.args.copies c.left_by-e.ensures c.put_on-2.new.ws (sym c.remembers.ensures ∙ c.if-remembers.false) c.put_on-2.result c.put_on-2.ensures
 
 pub leave_spec : {M : Type 1} → statement M
 leave_spec =

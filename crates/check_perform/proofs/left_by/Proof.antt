@@ -16,7 +16,7 @@ cast-size : tie.Need-overflow_cast-size
 cast-size c = search rules
 
 add-size : tie.Need-overflow_add-size
-add-size c = omega (arith, c.before.own_of_lem.ensures, own_small c.args.row, c.requires.1)
+add-size c = omega (arith, c.own_of.ensures, own_small c.args.row, c.requires.1)
 
 counts-requires : tie.Need-counts-requires
 counts-requires c κs = search rules
@@ -25,10 +25,10 @@ cast-t8 : tie.Need-overflow_cast-result
 cast-t8 c = search rules
 
 returns : tie.Need-returns-then-counts
-returns c = record { is = λ x. left_counted c.args.row c.args.a c.kind_of-kind.ensures c.before.before.before.before.own_of_lem.ensures (sym c.counts.ensures ∙ c.if-counts.true) x; one = omega (arith, c.before.before.before.before.own_of_lem.ensures, own_one c.args.row c.requires.0) }
+returns c = record { is = λ x. left_counted c.args.row c.args.a c.kind_of-kind.ensures c.own_of.ensures (sym c.counts.ensures ∙ c.if-counts.true) x; one = omega (arith, c.own_of.ensures, own_one c.args.row c.requires.0) }
 
 returns-2 : tie.Need-returns
-returns-2 c = record { is = λ x. left_uncounted c.args.row c.args.a c.kind_of-kind.ensures c.before.before.before.own_of_lem.ensures (sym c.counts.ensures ∙ c.if-counts.false) x; one = omega (arith, c.before.before.before.own_of_lem.ensures, own_one c.args.row c.requires.0) }
+returns-2 c = record { is = λ x. left_uncounted c.args.row c.args.a c.kind_of-kind.ensures c.own_of.ensures (sym c.counts.ensures ∙ c.if-counts.false) x; one = omega (arith, c.own_of.ensures, own_one c.args.row c.requires.0) }
 
 pub left_by_spec : {M : Type 1} → statement M
 left_by_spec =

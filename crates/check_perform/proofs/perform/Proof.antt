@@ -34,7 +34,7 @@ same_length : tie.Need-shape_of-ws-in-Went
 same_length c = search rules
 
 returns : tie.Need-returns-in-Went
-returns c = λ fixed. performed c.args.ceiling fixed c.args.op c.row_of-row.ensures c.leave.new.0 c.times_of.ensures (row_went c.args.ws.now c.args.st c.row_of-row.result c.in-Went.is c.take_row.ensures) c.leave.result c.leave.ensures
+returns c = λ fixed. performed c.args.ceiling fixed c.args.op c.row_of-row.ensures c.leave.new.ws c.times_of.ensures (row_went c.args.ws.now c.args.st c.row_of-row.result c.in-Went.is c.take_row.ensures) c.leave.result c.leave.ensures
 
 same-length-2 : tie.Need-shape_of-ws-in-Refused
 same-length-2 c = search rules

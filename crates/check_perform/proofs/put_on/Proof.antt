@@ -21,13 +21,13 @@ same_length : tie.Need-shape_of-ws-in-Once
 same_length c = search rules
 
 returns : tie.Need-returns-in-Once
-returns c = put_once c.args.ceiling c.args.ws.now c.push.new.0 c.args.st (entry_of c.args.e) c.in-Once.is c.push.ensures
+returns c = put_once c.args.ceiling c.args.ws.now c.push.new.ws c.args.st (entry_of c.args.e) c.in-Once.is c.push.ensures
 
 same-length-2 : tie.Need-shape_of-ws-in-Times
 same-length-2 c = search rules
 
 returns-2 : tie.Need-returns-in-Times
-returns-2 c = put_times c.args.ceiling c.args.ws.now c.copied.new.0 c.args.st (entry_of c.args.e) c.copied.result c.in-Times.is c.copied.ensures
+returns-2 c = put_times c.args.ceiling c.args.ws.now c.copied.new.ws c.args.st (entry_of c.args.e) c.copied.result c.in-Times.is c.copied.ensures
 
 pub put_on_spec : {M : Type 1} → statement M
 put_on_spec =

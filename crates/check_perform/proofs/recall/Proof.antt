@@ -22,7 +22,7 @@ same_length : tie.Need-shape_of-ws
 same_length c = search rules
 
 returns-2 : tie.Need-returns
-returns-2 c = recalled c.args.ceiling c.args.ws.now c.args.st c.args.times c.args.index c.copied.new.0 c.entry_at-e.result c.if-seen-index.false c.entry_at-e.ensures.is c.copied.result c.copied.ensures
+returns-2 c = recalled c.args.ceiling c.args.ws.now c.args.st c.args.times c.args.index c.copied.new.ws c.entry_at-e.result c.if-seen-index.false c.entry_at-e.ensures.is c.copied.result c.copied.ensures
 
 pub recall_spec : {M : Type 1} → statement M
 recall_spec =

@@ -8,74 +8,74 @@ use borrow.Author.Rules.{rules}
 use Rattle.print_forms.proofs.form.Statement.{statement}
 use Rattle.print_forms.proofs.form.Tie as tie
 
-get-requires : tie.Need-get-requires
+get-requires : tie.Need-get-kind-requires
 get-requires c κs = search rules
 
-returns : tie.Need-returns
-returns c = form_low (naming c.before.before.before.before.args.text.now (lent c.before.before.before.before.args.starts.now c.before.before.before.before.args.lengths.now c.before.before.before.before.args.known)) c.before.before.before.before.args.ws.now c.before.before.before.before.args.p c.before.get.ensures.0 (omega (arith, c.if1.true))
+returns : tie.Need-returns-then-kind-lt12
+returns c = form_low (naming c.args.text.now (lent c.args.starts.now c.args.lengths.now c.args.known)) c.args.ws.now c.args.p c.get-kind.ensures.0 (omega (arith, c.if-kind-lt12.true))
 
-get-requires-2 : tie.Need-get-requires-2
+get-requires-2 : tie.Need-get-requirements-requires
 get-requires-2 c κs = search rules
 
-zero-or-requires : tie.Need-zero-or-requires
+zero-or-requires : tie.Need-zero_or-requires
 zero-or-requires c κs = search rules
 
-returns-2 : tie.Need-returns-2
-returns-2 c = form_signature (naming c.before.before.before.before.before.before.before.args.text.now (lent c.before.before.before.before.before.before.before.args.starts.now c.before.before.before.before.before.before.before.args.lengths.now c.before.before.before.before.before.before.before.args.known)) c.before.before.before.before.before.before.before.args.ws.now c.before.before.before.before.before.before.before.args.p c.before.before.before.before.get.ensures.0 c.before.before.if2.true c.before.get2.ensures.0 c.zero_or.ensures
+returns-2 : tie.Need-returns-then-kind-eq12
+returns-2 c = form_signature (naming c.args.text.now (lent c.args.starts.now c.args.lengths.now c.args.known)) c.args.ws.now c.args.p c.get-kind.ensures.0 c.if-kind-eq12.true c.get-requirements.ensures.0 c.zero_or.ensures
 
-get-requires-3 : tie.Need-get-requires-3
+get-requires-3 : tie.Need-get-members-requires
 get-requires-3 c κs = search rules
 
-zero-or-requires-2 : tie.Need-zero-or-requires-2
+zero-or-requires-2 : tie.Need-zero_or-requires-then-kind-eq15
 zero-or-requires-2 c κs = search rules
 
-returns-3 : tie.Need-returns-3
-returns-3 c = form_protocols (naming c.before.before.before.before.before.before.before.before.args.text.now (lent c.before.before.before.before.before.before.before.before.args.starts.now c.before.before.before.before.before.before.before.before.args.lengths.now c.before.before.before.before.before.before.before.before.args.known)) c.before.before.before.before.before.before.before.before.args.ws.now c.before.before.before.before.before.before.before.before.args.p c.before.before.before.before.before.get.ensures.0 c.before.before.if3.true c.before.get3.ensures.0 c.zero-or2.ensures
+returns-3 : tie.Need-returns-then-kind-eq15
+returns-3 c = form_protocols (naming c.args.text.now (lent c.args.starts.now c.args.lengths.now c.args.known)) c.args.ws.now c.args.p c.get-kind.ensures.0 c.if-kind-eq15.true c.get-members.ensures.0 c.zero_or-then-kind-eq15.ensures
 
-sugar-requires : tie.Need-sugar-requires
+sugar-requires : tie.Need-sugar-s-requires
 sugar-requires c κs = search rules
 
-add-zero-or : tie.Need-overflow-add-zero-or
-add-zero-or c = omega (arith, (sugar_small (naming c.before.before.before.before.before.before.before.before.args.text.now (lent c.before.before.before.before.before.before.before.before.args.starts.now c.before.before.before.before.before.before.before.before.args.lengths.now c.before.before.before.before.before.before.before.before.args.known)) c.before.before.before.before.before.before.before.before.args.ws.now c.before.before.before.before.before.before.before.before.args.p (sym c.before.before.before.before.before.get.ensures.0 ∙ c.before.if4.true) c.before.before.before.before.before.before.before.before.requires.1 c.sugar.ensures))
+add-zero-or : tie.Need-overflow_add-s
+add-zero-or c = omega (arith, (sugar_small (naming c.args.text.now (lent c.args.starts.now c.args.lengths.now c.args.known)) c.args.ws.now c.args.p (sym c.get-kind.ensures.0 ∙ c.if-kind-eq18.true) c.requires.1 c.sugar-s.ensures))
 
-zero-or-requires-3 : tie.Need-zero-or-requires-3
+zero-or-requires-3 : tie.Need-zero_or-requires-then-kind-eq18
 zero-or-requires-3 c κs = search rules
 
-returns-4 : tie.Need-returns-4
-returns-4 c = form_bound (naming c.before.before.before.before.before.before.before.before.before.args.text.now (lent c.before.before.before.before.before.before.before.before.before.args.starts.now c.before.before.before.before.before.before.before.before.before.args.lengths.now c.before.before.before.before.before.before.before.before.before.args.known)) c.before.before.before.before.before.before.before.before.before.args.ws.now c.before.before.before.before.before.before.before.before.before.args.p c.before.before.before.before.before.before.get.ensures.0 c.before.before.if4.true c.zero-or3.ensures c.before.sugar.ensures (sugar_small (naming c.before.before.before.before.before.before.before.before.before.args.text.now (lent c.before.before.before.before.before.before.before.before.before.args.starts.now c.before.before.before.before.before.before.before.before.before.args.lengths.now c.before.before.before.before.before.before.before.before.before.args.known)) c.before.before.before.before.before.before.before.before.before.args.ws.now c.before.before.before.before.before.before.before.before.before.args.p (sym c.before.before.before.before.before.before.get.ensures.0 ∙ c.before.before.if4.true) c.before.before.before.before.before.before.before.before.before.requires.1 c.before.sugar.ensures)
+returns-4 : tie.Need-returns-then-kind-eq18
+returns-4 c = form_bound (naming c.args.text.now (lent c.args.starts.now c.args.lengths.now c.args.known)) c.args.ws.now c.args.p c.get-kind.ensures.0 c.if-kind-eq18.true c.zero_or-then-kind-eq18.ensures c.sugar-s.ensures (sugar_small (naming c.args.text.now (lent c.args.starts.now c.args.lengths.now c.args.known)) c.args.ws.now c.args.p (sym c.get-kind.ensures.0 ∙ c.if-kind-eq18.true) c.requires.1 c.sugar-s.ensures)
 
-get-requires-4 : tie.Need-get-requires-4
+get-requires-4 : tie.Need-get-variable-requires
 get-requires-4 c κs = search rules
 
-get-requires-5 : tie.Need-get-requires-5
-get-requires-5 c κs = let b = variable_below (naming c.before.before.before.before.before.before.before.before.before.args.text.now (lent c.before.before.before.before.before.before.before.before.before.args.starts.now c.before.before.before.before.before.before.before.before.before.args.lengths.now c.before.before.before.before.before.before.before.before.before.args.known)) c.before.before.before.before.before.before.before.before.before.args.ws.now c.before.before.before.before.before.before.before.before.before.args.p c.before.before.before.before.before.before.get.ensures.0 c.before.if5.true c.before.before.before.before.before.before.before.before.before.requires.1 in (omega (arith, c.get4.ensures.0, c.before.before.before.before.before.before.before.before.before.requires.0.long), omega arith)
+get-requires-5 : tie.Need-get-below-requires
+get-requires-5 c κs = let b = variable_below (naming c.args.text.now (lent c.args.starts.now c.args.lengths.now c.args.known)) c.args.ws.now c.args.p c.get-kind.ensures.0 c.if-kind-eq21.true c.requires.1 in (omega (arith, c.get-variable.ensures.0, c.requires.0.long), omega arith)
 
-returns-5 : tie.Need-returns-5
-returns-5 c = form_accessor (naming c.before.before.before.before.before.before.before.before.before.before.before.args.text.now (lent c.before.before.before.before.before.before.before.before.before.before.before.args.starts.now c.before.before.before.before.before.before.before.before.before.before.before.args.lengths.now c.before.before.before.before.before.before.before.before.before.before.before.args.known)) c.before.before.before.before.before.before.before.before.before.before.before.args.ws.now c.before.before.before.before.before.before.before.before.before.before.before.args.p c.before.before.before.before.before.before.before.before.get.ensures.0 c.before.before.get4.ensures.0 c.before.get5.ensures.0 c.before.before.before.if5.true c.if6.true
+returns-5 : tie.Need-returns-then-below-eq20
+returns-5 c = form_accessor (naming c.args.text.now (lent c.args.starts.now c.args.lengths.now c.args.known)) c.args.ws.now c.args.p c.get-kind.ensures.0 c.get-variable.ensures.0 c.get-below.ensures.0 c.if-kind-eq21.true c.if-below-eq20.true
 
-returns-6 : tie.Need-returns-6
-returns-6 c = form_other_accessor (naming c.before.before.before.before.before.before.before.before.before.before.before.args.text.now (lent c.before.before.before.before.before.before.before.before.before.before.before.args.starts.now c.before.before.before.before.before.before.before.before.before.before.before.args.lengths.now c.before.before.before.before.before.before.before.before.before.before.before.args.known)) c.before.before.before.before.before.before.before.before.before.before.before.args.ws.now c.before.before.before.before.before.before.before.before.before.before.before.args.p c.before.before.before.before.before.before.before.before.get.ensures.0 c.before.before.get4.ensures.0 c.before.get5.ensures.0 c.before.before.before.if5.true c.if6.false
+returns-6 : tie.Need-returns-then-kind-eq21
+returns-6 c = form_other_accessor (naming c.args.text.now (lent c.args.starts.now c.args.lengths.now c.args.known)) c.args.ws.now c.args.p c.get-kind.ensures.0 c.get-variable.ensures.0 c.get-below.ensures.0 c.if-kind-eq21.true c.if-below-eq20.false
 
-get-requires-6 : tie.Need-get-requires-6
+get-requires-6 : tie.Need-get-deallocating-requires
 get-requires-6 c κs = search rules
 
-zero-or-requires-4 : tie.Need-zero-or-requires-4
+zero-or-requires-4 : tie.Need-zero_or-requires-then-kind-eq23
 zero-or-requires-4 c κs = search rules
 
-returns-7 : tie.Need-returns-7
-returns-7 c = form_deinitializer (naming c.before.before.before.before.before.before.before.before.before.before.before.args.text.now (lent c.before.before.before.before.before.before.before.before.before.before.before.args.starts.now c.before.before.before.before.before.before.before.before.before.before.before.args.lengths.now c.before.before.before.before.before.before.before.before.before.before.before.args.known)) c.before.before.before.before.before.before.before.before.before.before.before.args.ws.now c.before.before.before.before.before.before.before.before.before.before.before.args.p c.before.before.before.before.before.before.before.before.get.ensures.0 c.before.before.if7.true c.before.get6.ensures.0 c.zero-or4.ensures
+returns-7 : tie.Need-returns-then-kind-eq23
+returns-7 c = form_deinitializer (naming c.args.text.now (lent c.args.starts.now c.args.lengths.now c.args.known)) c.args.ws.now c.args.p c.get-kind.ensures.0 c.if-kind-eq23.true c.get-deallocating.ensures.0 c.zero_or-then-kind-eq23.ensures
 
-get-requires-7 : tie.Need-get-requires-7
+get-requires-7 : tie.Need-get-words-requires
 get-requires-7 c κs = search rules
 
-record-form-requires : tie.Need-record-form-requires
+record-form-requires : tie.Need-record_form-requires
 record-form-requires c κs = search rules
 
-returns-8 : tie.Need-returns-8
-returns-8 c = form_record (naming c.before.before.before.before.before.before.before.before.before.before.before.before.args.text.now (lent c.before.before.before.before.before.before.before.before.before.before.before.before.args.starts.now c.before.before.before.before.before.before.before.before.before.before.before.before.args.lengths.now c.before.before.before.before.before.before.before.before.before.before.before.before.args.known)) c.before.before.before.before.before.before.before.before.before.before.before.before.args.ws.now c.before.before.before.before.before.before.before.before.before.before.before.before.args.p c.before.before.before.before.before.before.before.before.before.get.ensures.0 c.before.before.if8.true c.before.get7.ensures.0 c.record_form.ensures
+returns-8 : tie.Need-returns-then-kind-eq26
+returns-8 c = form_record (naming c.args.text.now (lent c.args.starts.now c.args.lengths.now c.args.known)) c.args.ws.now c.args.p c.get-kind.ensures.0 c.if-kind-eq26.true c.get-words.ensures.0 c.record_form.ensures
 
-returns-9 : tie.Need-returns-9
-returns-9 c = form_kind (naming c.before.before.before.before.before.before.before.before.before.before.args.text.now (lent c.before.before.before.before.before.before.before.before.before.before.args.starts.now c.before.before.before.before.before.before.before.before.before.before.args.lengths.now c.before.before.before.before.before.before.before.before.before.before.args.known)) c.before.before.before.before.before.before.before.before.before.before.args.ws.now c.before.before.before.before.before.before.before.before.before.before.args.p c.before.before.before.before.before.before.before.get.ensures.0 c.before.before.before.before.before.before.before.before.before.before.requires.1 c.before.before.before.before.before.if2.false c.before.before.before.before.if3.false c.before.before.before.if4.false c.before.before.if5.false c.before.if7.false c.if8.false
+returns-9 : tie.Need-returns
+returns-9 c = form_kind (naming c.args.text.now (lent c.args.starts.now c.args.lengths.now c.args.known)) c.args.ws.now c.args.p c.get-kind.ensures.0 c.requires.1 c.if-kind-eq12.false c.if-kind-eq15.false c.if-kind-eq18.false c.if-kind-eq21.false c.if-kind-eq23.false c.if-kind-eq26.false
 
 pub form_spec : {M : Type 1} → statement M
 form_spec =

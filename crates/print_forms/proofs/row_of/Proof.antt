@@ -4,14 +4,16 @@ use borrow.Author.Rules.{rules}
 use Rattle.print_forms.proofs.row_of.Statement.{statement}
 use Rattle.print_forms.proofs.row_of.Tie as tie
 
-form-requires : tie.Need-form-requires
+form-requires : tie.Need-form-f-requires
 form-requires c κs = search rules
 
 row-requires : tie.Need-row-requires
-row-requires c κs = c.form.ensures.small
+row-requires c κs = c.form-f.ensures.small
 
 returns : tie.Need-returns
-returns c = rowed c.before.form.ensures c.row.ensures
+returns c = rowed c.form-f.ensures c.row.ensures
 
 pub row_of_spec : {M : Type 1} → statement M
-row_of_spec = tie.close (tie.spec form-requires row-requires returns)
+row_of_spec = tie.close (tie.spec form-requires
+    row-requires
+    returns)

@@ -10,46 +10,43 @@ use borrow.Author.Rules.{rules}
 use Rattle.print_forms.proofs.standard.Statement.{statement}
 use Rattle.print_forms.proofs.standard.Tie as tie
 
-get-requires : tie.Need-get-requires
+get-requires : tie.Need-get-kind-requires
 get-requires c κs = search rules
 
-returns : tie.Need-returns
-returns c = standard_low (naming c.before.before.before.before.before.args.text.now (lent c.before.before.before.before.before.args.starts.now c.before.before.before.before.before.args.lengths.now c.before.before.before.before.before.args.known)) c.before.before.before.before.before.args.ws.now c.before.before.before.before.before.args.p c.before.get.ensures.0 c.if1.true
+returns : tie.Need-returns-then-kind-lt2
+returns c = standard_low (naming c.args.text.now (lent c.args.starts.now c.args.lengths.now c.args.known)) c.args.ws.now c.args.p c.get-kind.ensures.0 c.if-kind-lt2.true
 
-returns-2 : tie.Need-returns-2
-returns-2 c = standard_high (naming c.before.before.before.before.before.before.args.text.now (lent c.before.before.before.before.before.before.args.starts.now c.before.before.before.before.before.before.args.lengths.now c.before.before.before.before.before.before.args.known)) c.before.before.before.before.before.before.args.ws.now c.before.before.before.before.before.before.args.p c.before.before.get.ensures.0 c.if2.true
+returns-2 : tie.Need-returns-then-kind-gt6
+returns-2 c = standard_high (naming c.args.text.now (lent c.args.starts.now c.args.lengths.now c.args.known)) c.args.ws.now c.args.p c.get-kind.ensures.0 c.if-kind-gt6.true
 
-get-requires-2 : tie.Need-get-requires-2
+get-requires-2 : tie.Need-get-own-requires
 get-requires-2 c κs = search rules
 
-named-is-requires : tie.Need-named-is-requires
-named-is-requires c κs = (c.before.before.before.before.before.before.before.requires.0.known, (own_some (naming c.before.before.before.before.before.before.before.args.text.now (lent c.before.before.before.before.before.before.before.args.starts.now c.before.before.before.before.before.before.before.args.lengths.now c.before.before.before.before.before.before.before.args.known)) c.before.before.before.before.before.before.before.args.ws.now c.before.before.before.before.before.before.before.args.p c.before.before.before.get.ensures.0 c.before.before.if1.false c.before.if2.false c.before.before.before.before.before.before.before.requires.1.0 c.get2.ensures.0, c.before.before.before.before.before.before.before.requires.1.1))
+named-is-requires : tie.Need-named_is-requires
+named-is-requires c κs = (c.requires.0.known, (own_some (naming c.args.text.now (lent c.args.starts.now c.args.lengths.now c.args.known)) c.args.ws.now c.args.p c.get-kind.ensures.0 c.if-kind-lt2.false c.if-kind-gt6.false c.requires.1.0 c.get-own.ensures.0, c.requires.1.1))
 
-returns-3 : tie.Need-returns-3
-returns-3 c = standard_unnamed (naming c.before.before.before.before.before.before.before.before.before.args.text.now (lent c.before.before.before.before.before.before.before.before.before.args.starts.now c.before.before.before.before.before.before.before.before.before.args.lengths.now c.before.before.before.before.before.before.before.before.before.args.known)) c.before.before.before.before.before.before.before.before.before.args.ws.now c.before.before.before.before.before.before.before.before.before.args.p c.before.before.before.before.before.get.ensures.0 c.before.before.before.before.if1.false c.before.before.before.if2.false c.before.before.get2.ensures.0 c.before.named_is.ensures (not-true _ c.if3.true)
+returns-3 : tie.Need-returns-then-not-named_is
+returns-3 c = standard_unnamed (naming c.args.text.now (lent c.args.starts.now c.args.lengths.now c.args.known)) c.args.ws.now c.args.p c.get-kind.ensures.0 c.if-kind-lt2.false c.if-kind-gt6.false c.get-own.ensures.0 c.named_is.ensures (not-true _ c.if-not-named_is.true-raw)
 
-get-requires-3 : tie.Need-get-requires-3
+get-requires-3 : tie.Need-get-context-requires
 get-requires-3 c κs = search rules
 
-get-requires-4 : tie.Need-get-requires-4
-get-requires-4 c κs = let b = context_below (naming c.before.before.before.before.before.before.before.before.before.before.args.text.now (lent c.before.before.before.before.before.before.before.before.before.before.args.starts.now c.before.before.before.before.before.before.before.before.before.before.args.lengths.now c.before.before.before.before.before.before.before.before.before.before.args.known)) c.before.before.before.before.before.before.before.before.before.before.args.ws.now c.before.before.before.before.before.before.before.before.before.before.args.p c.before.before.before.before.before.before.get.ensures.0 c.before.before.before.before.before.if1.false c.before.before.before.before.if2.false c.before.before.before.before.before.before.before.before.before.before.requires.1.0 in (omega (arith, c.get3.ensures.0, c.before.before.before.before.before.before.before.before.before.before.requires.0.long), omega arith)
+get-requires-4 : tie.Need-get-outer-requires
+get-requires-4 c κs = let b = context_below (naming c.args.text.now (lent c.args.starts.now c.args.lengths.now c.args.known)) c.args.ws.now c.args.p c.get-kind.ensures.0 c.if-kind-lt2.false c.if-kind-gt6.false c.requires.1.0 in (omega (arith, c.get-context.ensures.0, c.requires.0.long), omega arith)
 
-returns-4 : tie.Need-returns-4
-returns-4 c = standard_elsewhere (naming c.before.before.before.before.before.before.before.before.before.before.before.before.args.text.now (lent c.before.before.before.before.before.before.before.before.before.before.before.before.args.starts.now c.before.before.before.before.before.before.before.before.before.before.before.before.args.lengths.now c.before.before.before.before.before.before.before.before.before.before.before.before.args.known)) c.before.before.before.before.before.before.before.before.before.before.before.before.args.ws.now c.before.before.before.before.before.before.before.before.before.before.before.before.args.p c.before.before.before.before.before.before.before.before.get.ensures.0 c.before.before.before.before.before.before.before.if1.false c.before.before.before.before.before.before.if2.false c.before.before.before.before.before.get2.ensures.0 c.before.before.before.before.named_is.ensures (not-false _ c.before.before.before.if3.false) c.before.before.get3.ensures.0 c.before.get4.ensures.0 c.if4.true
+returns-4 : tie.Need-returns-then-outer-ne1
+returns-4 c = standard_elsewhere (naming c.args.text.now (lent c.args.starts.now c.args.lengths.now c.args.known)) c.args.ws.now c.args.p c.get-kind.ensures.0 c.if-kind-lt2.false c.if-kind-gt6.false c.get-own.ensures.0 c.named_is.ensures (not-false _ c.if-not-named_is.false-raw) c.get-context.ensures.0 c.get-outer.ensures.0 c.if-outer-ne1.true
 
-get-requires-5 : tie.Need-get-requires-5
-get-requires-5 c κs = let b = context_below (naming c.before.before.before.before.before.before.before.before.before.before.before.before.args.text.now (lent c.before.before.before.before.before.before.before.before.before.before.before.before.args.starts.now c.before.before.before.before.before.before.before.before.before.before.before.before.args.lengths.now c.before.before.before.before.before.before.before.before.before.before.before.before.args.known)) c.before.before.before.before.before.before.before.before.before.before.before.before.args.ws.now c.before.before.before.before.before.before.before.before.before.before.before.before.args.p c.before.before.before.before.before.before.before.before.get.ensures.0 c.before.before.before.before.before.before.before.if1.false c.before.before.before.before.before.before.if2.false c.before.before.before.before.before.before.before.before.before.before.before.before.requires.1.0 in (omega (arith, c.before.before.get3.ensures.0, c.before.before.before.before.before.before.before.before.before.before.before.before.requires.0.long), omega arith)
+get-requires-5 : tie.Need-get-module-requires
+get-requires-5 c κs = let b = context_below (naming c.args.text.now (lent c.args.starts.now c.args.lengths.now c.args.known)) c.args.ws.now c.args.p c.get-kind.ensures.0 c.if-kind-lt2.false c.if-kind-gt6.false c.requires.1.0 in (omega (arith, c.get-context.ensures.0, c.requires.0.long), omega arith)
 
-slice-aggregate-named-is : tie.Need-slice-aggregate-named-is
-slice-aggregate-named-is c = search rules
-
-named-is-requires-2 : tie.Need-named-is-requires-2
+named-is-requires-2 : tie.Need-named_is-requires-2
 unfolding bytes
-named-is-requires-2 c κs = (c.before.before.before.before.before.before.before.before.before.before.before.before.before.before.requires.0.known, (module_some (naming c.before.before.before.before.before.before.before.before.before.before.before.before.before.before.args.text.now (lent c.before.before.before.before.before.before.before.before.before.before.before.before.before.before.args.starts.now c.before.before.before.before.before.before.before.before.before.before.before.before.before.before.args.lengths.now c.before.before.before.before.before.before.before.before.before.before.before.before.before.before.args.known)) c.before.before.before.before.before.before.before.before.before.before.before.before.before.before.args.ws.now c.before.before.before.before.before.before.before.before.before.before.before.before.before.before.args.p c.before.before.before.before.before.before.before.before.before.before.get.ensures.0 c.before.before.before.before.before.before.before.before.before.if1.false c.before.before.before.before.before.before.before.before.if2.false c.before.before.before.before.before.before.before.get2.ensures.0 c.before.before.before.before.before.before.named_is.ensures (not-false _ c.before.before.before.before.before.if3.false) c.before.before.before.before.get3.ensures.0 c.before.before.before.get4.ensures.0 c.before.before.if4.false c.before.before.before.before.before.before.before.before.before.before.before.before.before.before.requires.1.0 c.before.get5.ensures.0, swift_alone))
+named-is-requires-2 c κs = (c.requires.0.known, (module_some (naming c.args.text.now (lent c.args.starts.now c.args.lengths.now c.args.known)) c.args.ws.now c.args.p c.get-kind.ensures.0 c.if-kind-lt2.false c.if-kind-gt6.false c.get-own.ensures.0 c.named_is.ensures (not-false _ c.if-not-named_is.false-raw) c.get-context.ensures.0 c.get-outer.ensures.0 c.if-outer-ne1.false c.requires.1.0 c.get-module.ensures.0, swift_alone))
 
-returns-5 : tie.Need-returns-5
+returns-5 : tie.Need-returns
 unfolding bytes
-returns-5 c = standard_swift (naming c.before.before.before.before.before.before.before.before.before.before.before.before.before.before.before.args.text.now (lent c.before.before.before.before.before.before.before.before.before.before.before.before.before.before.before.args.starts.now c.before.before.before.before.before.before.before.before.before.before.before.before.before.before.before.args.lengths.now c.before.before.before.before.before.before.before.before.before.before.before.before.before.before.before.args.known)) c.before.before.before.before.before.before.before.before.before.before.before.before.before.before.before.args.ws.now c.before.before.before.before.before.before.before.before.before.before.before.before.before.before.before.args.p c.before.before.before.before.before.before.before.before.before.before.before.get.ensures.0 c.before.before.before.before.before.before.before.before.before.before.if1.false c.before.before.before.before.before.before.before.before.before.if2.false c.before.before.before.before.before.before.before.before.get2.ensures.0 c.before.before.before.before.before.before.before.named_is.ensures (not-false _ c.before.before.before.before.before.before.if3.false) c.before.before.before.before.before.get3.ensures.0 c.before.before.before.before.get4.ensures.0 c.before.before.before.if4.false c.before.before.get5.ensures.0 c.named-is2.ensures
+returns-5 c = standard_swift (naming c.args.text.now (lent c.args.starts.now c.args.lengths.now c.args.known)) c.args.ws.now c.args.p c.get-kind.ensures.0 c.if-kind-lt2.false c.if-kind-gt6.false c.get-own.ensures.0 c.named_is.ensures (not-false _ c.if-not-named_is.false-raw) c.get-context.ensures.0 c.get-outer.ensures.0 c.if-outer-ne1.false c.get-module.ensures.0 c.named_is-2.ensures
 
 pub standard_spec : {M : Type 1} → statement M
 standard_spec =
@@ -65,6 +62,5 @@ standard_spec =
     get-requires-4
     returns-4
     get-requires-5
-    slice-aggregate-named-is
     named-is-requires-2
     returns-5)

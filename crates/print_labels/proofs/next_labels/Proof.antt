@@ -5,17 +5,20 @@ use borrow.Author.Rules.{rules}
 use Rattle.print_labels.proofs.next_labels.Statement.{statement}
 use Rattle.print_labels.proofs.next_labels.Tie as tie
 
-returns : tie.Need-returns
-returns c = next_none c.before.before.requires c.if1.true
+returns : tie.Need-returns-then-left-eq0
+returns c = next_none c.requires c.if-left-eq0.true
 
-get-requires : tie.Need-get-requires
+get-requires : tie.Need-get-cell-requires
 get-requires c κs = search rules
 
-sub-t8 : tie.Need-overflow-sub-t8
+sub-t8 : tie.Need-overflow_sub-result
 sub-t8 c = search rules
 
-returns-2 : tie.Need-returns-2
-returns-2 c = next_some c.before.before.before.requires c.before.if1.false c.get.ensures.0 refl
+returns-2 : tie.Need-returns
+returns-2 c = next_some c.requires c.if-left-eq0.false c.get-cell.ensures.0 refl
 
 pub next_labels_spec : {M : Type 1} → statement M
-next_labels_spec = tie.close (tie.spec returns get-requires sub-t8 returns-2)
+next_labels_spec = tie.close (tie.spec returns
+    get-requires
+    sub-t8
+    returns-2)

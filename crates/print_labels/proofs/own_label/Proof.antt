@@ -8,11 +8,13 @@ use Rattle.print_labels.proofs.own_label.Tie as tie
 get-requires : tie.Need-get-requires
 get-requires c κs = search rules
 
-returns : tie.Need-returns
-returns c = c.get.ensures.0 ∙ sym (ap (own_label c.before.before.before.args.ws.now c.before.before.before.args.p) c.before.if1.true)
+returns : tie.Need-returns-then-shown
+returns c = c.get.ensures.0 ∙ sym (ap (own_label c.args.ws.now c.args.p) c.if-shown.true)
 
-returns-2 : tie.Need-returns-2
+returns-2 : tie.Need-returns
 returns-2 c = search rules
 
 pub own_label_spec : {M : Type 1} → statement M
-own_label_spec = tie.close (tie.spec get-requires returns returns-2)
+own_label_spec = tie.close (tie.spec get-requires
+    returns
+    returns-2)

@@ -7,43 +7,43 @@ use borrow.Author.Rules.{rules}
 use Rattle.print_labels.proofs.put_label.Statement.{statement}
 use Rattle.print_labels.proofs.put_label.Tie as tie
 
-returns : tie.Need-returns
-returns c = label_missing (naming c.before.before.before.before.before.args.text.now (lent c.before.before.before.before.before.args.starts.now c.before.before.before.before.before.args.lengths.now c.before.before.before.before.before.args.known)) c.before.before.before.before.before.args.ws.now c.before.before.before.before.before.args.own c.before.before.before.before.before.args.l c.before.if1.true c.if2.true c.before.before.before.before.before.requires.0
+returns : tie.Need-returns-then-own-eq4294967295
+returns c = label_missing (naming c.args.text.now (lent c.args.starts.now c.args.lengths.now c.args.known)) c.args.ws.now c.args.own c.args.l c.if-left-eq0.true c.if-own-eq4294967295.true c.requires.0
 
-put-named-label-requires : tie.Need-put-named-label-requires
-put-named-label-requires c κs = let n = own_label_of (naming c.before.before.before.before.before.before.args.text.now (lent c.before.before.before.before.before.before.args.starts.now c.before.before.before.before.before.before.args.lengths.now c.before.before.before.before.before.before.args.known)) c.before.before.before.before.before.before.args.ws.now c.before.before.before.before.before.before.args.own c.before.before.before.before.before.before.args.l c.before.before.if1.true c.before.if2.false c.before.before.before.before.before.before.requires.1.1.1.is in (c.before.before.before.before.before.before.requires.0, (c.before.before.before.before.before.before.requires.1.0, record { text = n.name; is = n.named }))
+put-named-label-requires : tie.Need-put_named_label-requires
+put-named-label-requires c κs = let n = own_label_of (naming c.args.text.now (lent c.args.starts.now c.args.lengths.now c.args.known)) c.args.ws.now c.args.own c.args.l c.if-left-eq0.true c.if-own-eq4294967295.false c.requires.1.1.1.is in (c.requires.0, (c.requires.1.0, record { text = n.name; is = n.named }))
 
-returns-2 : tie.Need-returns-2
-returns-2 c = label_own (naming c.before.before.before.before.before.before.before.before.before.args.text.now (lent c.before.before.before.before.before.before.before.before.before.args.starts.now c.before.before.before.before.before.before.before.before.before.args.lengths.now c.before.before.before.before.before.before.before.before.before.args.known)) c.before.before.before.before.before.before.before.before.before.args.ws.now c.before.before.before.before.before.before.before.before.before.args.own c.before.before.before.before.before.before.before.before.before.args.l c.before.before.before.before.before.if1.true c.before.before.before.before.if2.false c.before.before.put-named-label.ensures
+returns-2 : tie.Need-returns-then-left-eq0
+returns-2 c = label_own (naming c.args.text.now (lent c.args.starts.now c.args.lengths.now c.args.known)) c.args.ws.now c.args.own c.args.l c.if-left-eq0.true c.if-own-eq4294967295.false c.put_named_label.ensures
 
-get-requires : tie.Need-get-requires
+get-requires : tie.Need-get-cell-requires
 get-requires c κs = search rules
 
-get-requires-2 : tie.Need-get-requires-2
-get-requires-2 c κs = let b = (open_labels c.before.before.before.before.before.requires.1.1.1.is.are c.before.if1.false).below in (omega (arith, c.get.ensures.0, c.before.before.before.before.before.requires.1.1.0.long), omega arith)
+get-requires-2 : tie.Need-get-k-requires
+get-requires-2 c κs = let b = (open_labels c.requires.1.1.1.is.are c.if-left-eq0.false).below in (omega (arith, c.get-cell.ensures.0, c.requires.1.1.0.long), omega arith)
 
-put-text-requires : tie.Need-put-text-requires
+put-text-requires : tie.Need-put_text-r-requires
 put-text-requires c κs = search rules
 
-put-text-requires-2 : tie.Need-put-text-requires-2
+put-text-requires-2 : tie.Need-put_text-requires
 put-text-requires-2 c κs = search rules
 
-returns-3 : tie.Need-returns-3
-returns-3 c = puts_marker (naming c.before.before.before.before.before.before.before.before.before.before.before.before.before.before.before.args.text.now (lent c.before.before.before.before.before.before.before.before.before.before.before.before.before.before.before.args.starts.now c.before.before.before.before.before.before.before.before.before.before.before.before.before.before.before.args.lengths.now c.before.before.before.before.before.before.before.before.before.before.before.before.before.before.before.args.known)) c.before.before.before.before.before.before.before.before.before.before.before.before.before.before.before.args.ws.now c.before.before.before.before.before.before.before.before.before.before.before.before.before.before.before.args.own c.before.before.before.before.before.before.before.before.before.before.before.before.before.before.before.args.l c.before.before.before.before.before.before.before.before.before.before.get.ensures.0 c.before.before.before.before.before.before.before.before.before.get2.ensures.0 c.before.before.before.before.before.before.before.before.before.before.before.if1.false c.before.before.before.before.before.before.before.before.if3.true c.before.before.before.before.before.before.put-text.ensures c.before.before.put-text2.ensures
+returns-3 : tie.Need-returns-then-k-eq4294967295
+returns-3 c = puts_marker (naming c.args.text.now (lent c.args.starts.now c.args.lengths.now c.args.known)) c.args.ws.now c.args.own c.args.l c.get-cell.ensures.0 c.get-k.ensures.0 c.if-left-eq0.false c.if-k-eq4294967295.true c.put_text-r.ensures c.put_text.ensures
 
-put-named-label-requires-2 : tie.Need-put-named-label-requires-2
-put-named-label-requires-2 c κs = let n = first_is_named (naming c.before.before.before.before.before.before.before.before.args.text.now (lent c.before.before.before.before.before.before.before.before.args.starts.now c.before.before.before.before.before.before.before.before.args.lengths.now c.before.before.before.before.before.before.before.before.args.known)) c.before.before.before.before.before.before.before.before.args.ws.now c.before.before.before.before.before.before.before.before.args.own c.before.before.before.before.before.before.before.before.args.l c.before.before.before.get.ensures.0 c.before.before.get2.ensures.0 c.before.before.before.before.if1.false c.before.if3.false c.before.before.before.before.before.before.before.before.requires.1.1.1.is in (c.before.before.before.before.before.before.before.before.requires.0, (c.before.before.before.before.before.before.before.before.requires.1.0, record { text = n.name; is = n.named }))
+put-named-label-requires-2 : tie.Need-put_named_label-requires-2
+put-named-label-requires-2 c κs = let n = first_is_named (naming c.args.text.now (lent c.args.starts.now c.args.lengths.now c.args.known)) c.args.ws.now c.args.own c.args.l c.get-cell.ensures.0 c.get-k.ensures.0 c.if-left-eq0.false c.if-k-eq4294967295.false c.requires.1.1.1.is in (c.requires.0, (c.requires.1.0, record { text = n.name; is = n.named }))
 
-returns-4 : tie.Need-returns-4
-returns-4 c = puts_first (naming c.before.before.before.before.before.before.before.before.before.before.before.args.text.now (lent c.before.before.before.before.before.before.before.before.before.before.before.args.starts.now c.before.before.before.before.before.before.before.before.before.before.before.args.lengths.now c.before.before.before.before.before.before.before.before.before.before.before.args.known)) c.before.before.before.before.before.before.before.before.before.before.before.args.ws.now c.before.before.before.before.before.before.before.before.before.before.before.args.own c.before.before.before.before.before.before.before.before.before.before.before.args.l c.before.before.before.before.before.before.get.ensures.0 c.before.before.before.before.before.get2.ensures.0 c.before.before.before.before.before.before.before.if1.false c.before.before.before.before.if3.false c.before.before.put-named-label2.ensures
+returns-4 : tie.Need-returns
+returns-4 c = puts_first (naming c.args.text.now (lent c.args.starts.now c.args.lengths.now c.args.known)) c.args.ws.now c.args.own c.args.l c.get-cell.ensures.0 c.get-k.ensures.0 c.if-left-eq0.false c.if-k-eq4294967295.false c.put_named_label-2.ensures
 
-same_length : tie.Need-same-length
+same_length : tie.Need-shape_of-out-then-left-eq0
 same_length c = search rules
 
-same-length-2 : tie.Need-same-length-2
+same-length-2 : tie.Need-shape_of-out-then-k-eq4294967295
 same-length-2 c = search rules
 
-same-length-3 : tie.Need-same-length-3
+same-length-3 : tie.Need-shape_of-out
 same-length-3 c = search rules
 
 pub put_label_spec : {M : Type 1} → statement M

@@ -4,18 +4,21 @@ use borrow.Author.Rules.{rules}
 use Rattle.print_labels.proofs.put_named_label.Statement.{statement}
 use Rattle.print_labels.proofs.put_named_label.Tie as tie
 
-put-named-requires : tie.Need-put-named-requires
+put-named-requires : tie.Need-put_named-r-requires
 put-named-requires c κs = search rules
 
-put-text-requires : tie.Need-put-text-requires
+put-text-requires : tie.Need-put_text-requires
 put-text-requires c κs = search rules
 
 returns : tie.Need-returns
-returns c = named_label c.before.before.before.before.before.before.put-named.ensures c.before.before.put-text.ensures
+returns c = named_label c.put_named-r.ensures c.put_text.ensures
 
-same_length : tie.Need-same-length
+same_length : tie.Need-shape_of-out
 same_length c = search rules
 
 pub put_named_label_spec : {M : Type 1} → statement M
 put_named_label_spec =
-    tie.close (tie.spec put-named-requires put-text-requires same_length returns)
+    tie.close (tie.spec put-named-requires
+    put-text-requires
+    same_length
+    returns)

@@ -12,32 +12,32 @@ field-requires-2 : tie.Need-field-requires-2
 field-requires-2 c κs = search rules
 
 -- src/lib.rt:470:16
-add-size : tie.Need-overflow-add-size
+add-size : tie.Need-overflow_add-size
 add-size c = search rules
 
 -- src/lib.rt:472:12
-cast-push-new : tie.Need-overflow-cast-push-new
+cast-push-new : tie.Need-overflow_cast-rest
 cast-push-new c = search rules
 
 -- src/lib.rt:473:12
-cast-t12 : tie.Need-overflow-cast-t12
+cast-t12 : tie.Need-overflow_cast-rest-2
 cast-t12 c = search rules
 
 -- src/lib.rt:478:38
-add-push-new : tie.Need-overflow-add-push-new
+add-push-new : tie.Need-overflow_add-size-2
 add-push-new c = search rules
 
 -- src/lib.rt:478:5
-push-new-requires : tie.Need-push-new-requires
+push-new-requires : tie.Need-push_new-requires
 push-new-requires c κs = search rules
 
 -- src/lib.rt:465:1
-same_length : tie.Need-same-length
+same_length : tie.Need-shape_of-ws
 same_length c = search rules
 
 -- src/lib.rt:465:1
 returns : tie.Need-returns
-returns c = left_pair c.before.before.before.before.before.before.field.ensures c.before.before.before.before.field2.ensures c.before.before.push-new.ensures
+returns c = left_pair c.field.ensures c.field-2.ensures c.push_new.ensures
 
 pub push_pair_spec : {M : Type 1} → statement M
 push_pair_spec =

@@ -13,71 +13,71 @@ use Rattle.tree_types.proofs.apply.Tie as tie
 
 -- src/lib.rt:318:11
 collect-requires : tie.Need-collect-requires
-collect-requires c κs = ready_none c.before.before.requires
+collect-requires c κs = ready_none c.requires
 
 -- src/lib.rt:319:24
-enum-known-l : tie.Need-enum-known-l
+enum-known-l : tie.Need-enum_known-l
 enum-known-l c = search rules
 
 -- src/lib.rt:319:39
-pop-if-requires : tie.Need-pop-if-requires
-pop-if-requires c κs = ready_none (gathering_ready (gathered (collected R.arguments _ _ c.before.before.l.given.1 c.before.before.before.before.before.before.collect.ensures) c.before.before.before.before.before.before.before.before.before.requires))
+pop-if-requires : tie.Need-pop_if-requires
+pop-if-requires c κs = ready_none (gathering_ready (gathered (collected R.arguments _ _ c.in-Cells.is c.collect.ensures) c.requires))
 
 -- src/lib.rt:320:27
-enum-known-p : tie.Need-enum-known-p
+enum-known-p : tie.Need-enum_known-p
 enum-known-p c = search rules
 
 -- src/lib.rt:321:21
-field-requires : tie.Need-field-requires
-field-requires c κs = (inside_record _ (taken_place (R.pop_if K.is_type) 3 _ _ c.before.before.p.given.1 c.before.before.before.before.pop_if.ensures.0).below (gathering_ready (gathering_taken (taken_place (R.pop_if K.is_type) 3 _ _ c.before.before.p.given.1 c.before.before.before.before.pop_if.ensures.0) (gathered (collected R.arguments _ _ c.before.before.before.before.before.before.before.l.given.1 c.before.before.before.before.before.before.before.before.before.before.before.collect.ensures) c.before.before.before.before.before.before.before.before.before.before.before.before.before.before.requires))), omega arith)
+field-requires : tie.Need-field-size-requires
+field-requires c κs = (inside_record _ (taken_place (R.pop_if K.is_type) 3 _ _ c.in-Place.is c.pop_if.ensures.0).below (gathering_ready (gathering_taken (taken_place (R.pop_if K.is_type) 3 _ _ c.in-Place.is c.pop_if.ensures.0) (gathered (collected R.arguments _ _ c.in-Cells.is c.collect.ensures) c.requires))), omega arith)
 
 -- src/lib.rt:323:24
-cast-push-kept : tie.Need-overflow-cast-push-kept
-cast-push-kept c = record { fits = small_place _ (taken_place (R.pop_if K.is_type) 3 _ _ c.before.before.before.p.given.1 c.before.before.before.before.before.pop_if.ensures.0).below (gathering_ready (gathering_taken (taken_place (R.pop_if K.is_type) 3 _ _ c.before.before.before.p.given.1 c.before.before.before.before.before.pop_if.ensures.0) (gathered (collected R.arguments _ _ c.before.before.before.before.before.before.before.before.l.given.1 c.before.before.before.before.before.before.before.before.before.before.before.before.collect.ensures) c.before.before.before.before.before.before.before.before.before.before.before.before.before.before.before.requires))) }
+cast-push-kept : tie.Need-overflow_cast-rest
+cast-push-kept c = record { fits = small_place _ (taken_place (R.pop_if K.is_type) 3 _ _ c.in-Place.is c.pop_if.ensures.0).below (gathering_ready (gathering_taken (taken_place (R.pop_if K.is_type) 3 _ _ c.in-Place.is c.pop_if.ensures.0) (gathered (collected R.arguments _ _ c.in-Cells.is c.collect.ensures) c.requires))) }
 
 -- src/lib.rt:329:59
-add-push-kept : tie.Need-overflow-add-push-kept
-add-push-kept c = record { fits = omega (arith, taken_sum (taken_place (R.pop_if K.is_type) 3 _ _ c.before.before.before.before.before.p.given.1 c.before.before.before.before.before.before.before.pop_if.ensures.0) (gathered (collected R.arguments _ _ c.before.before.before.before.before.before.before.before.before.before.l.given.1 c.before.before.before.before.before.before.before.before.before.before.before.before.before.before.collect.ensures) c.before.before.before.before.before.before.before.before.before.before.before.before.before.before.before.before.before.requires), c.before.before.field.ensures) }
+add-push-kept : tie.Need-overflow_add-l
+add-push-kept c = record { fits = omega (arith, taken_sum (taken_place (R.pop_if K.is_type) 3 _ _ c.in-Place.is c.pop_if.ensures.0) (gathered (collected R.arguments _ _ c.in-Cells.is c.collect.ensures) c.requires), c.field-size.ensures) }
 
 -- src/lib.rt:329:59
-add-push-kept-2 : tie.Need-overflow-add-push-kept-2
-add-push-kept-2 c = record { fits = omega (arith, taken_sum (taken_place (R.pop_if K.is_type) 3 _ _ c.before.before.before.before.before.p.given.1 c.before.before.before.before.before.before.before.pop_if.ensures.0) (gathered (collected R.arguments _ _ c.before.before.before.before.before.before.before.before.before.before.l.given.1 c.before.before.before.before.before.before.before.before.before.before.before.before.before.before.collect.ensures) c.before.before.before.before.before.before.before.before.before.before.before.before.before.before.before.before.before.requires), c.before.before.field.ensures) }
+add-push-kept-2 : tie.Need-overflow_add-l-in-Place
+add-push-kept-2 c = record { fits = omega (arith, taken_sum (taken_place (R.pop_if K.is_type) 3 _ _ c.in-Place.is c.pop_if.ensures.0) (gathered (collected R.arguments _ _ c.in-Cells.is c.collect.ensures) c.requires), c.field-size.ensures) }
 
 -- src/lib.rt:329:28
-push-kept-requires : tie.Need-push-kept-requires
-push-kept-requires c κs = room (omega arith) (omega arith) (omega arith) (gathering_ready (gathering_taken (taken_place (R.pop_if K.is_type) 3 _ _ c.before.before.before.before.before.p.given.1 c.before.before.before.before.before.before.before.pop_if.ensures.0) (gathered (collected R.arguments _ _ c.before.before.before.before.before.before.before.before.before.before.l.given.1 c.before.before.before.before.before.before.before.before.before.before.before.before.before.before.collect.ensures) c.before.before.before.before.before.before.before.before.before.before.before.before.before.before.before.before.before.requires)))
+push-kept-requires : tie.Need-push_kept-requires
+push-kept-requires c κs = room (omega arith) (omega arith) (omega arith) (gathering_ready (gathering_taken (taken_place (R.pop_if K.is_type) 3 _ _ c.in-Place.is c.pop_if.ensures.0) (gathered (collected R.arguments _ _ c.in-Cells.is c.collect.ensures) c.requires)))
 
 -- src/lib.rt:331:46
-enum_told : tie.Need-enum-told
+enum_told : tie.Need-enum_told-1
 enum_told c = search rules
 
 -- src/lib.rt:333:43
-enum-told-2 : tie.Need-enum-told-2
+enum-told-2 : tie.Need-enum_told-in-Nothing
 enum-told-2 c = search rules
 
 -- src/lib.rt:314:1
-same_length : tie.Need-same-length
-same_length c = (applied_done _ _ refl (ap (λ (i : ℕ). c.before.before.before.before.before.before.before.before.before.before.before.before.before.l.given.0.0.sum + i + 1) c.before.before.before.before.before.field.ensures) (collected R.arguments _ _ c.before.before.before.before.before.before.before.before.before.before.before.before.before.l.given.1 c.before.before.before.before.before.before.before.before.before.before.before.before.before.before.before.before.before.collect.ensures) (taken_place (R.pop_if K.is_type) 3 _ _ c.before.before.before.before.before.before.before.before.p.given.1 c.before.before.before.before.before.before.before.before.before.before.pop_if.ensures.0) c.before.before.push-Kept.ensures).long
+same_length : tie.Need-shape_of-ws-in-Place
+same_length c = (applied_done _ _ refl (ap (λ (i : ℕ). c.in-Cells.l.sum + i + 1) c.field-size.ensures) (collected R.arguments _ _ c.in-Cells.is c.collect.ensures) (taken_place (R.pop_if K.is_type) 3 _ _ c.in-Place.is c.pop_if.ensures.0) c.push_kept.ensures).long
 
 -- src/lib.rt:314:1
-returns : tie.Need-returns
-returns c = (applied_done _ _ refl (ap (λ (i : ℕ). c.before.before.before.before.before.before.before.before.before.before.before.before.before.l.given.0.0.sum + i + 1) c.before.before.before.before.before.field.ensures) (collected R.arguments _ _ c.before.before.before.before.before.before.before.before.before.before.before.before.before.l.given.1 c.before.before.before.before.before.before.before.before.before.before.before.before.before.before.before.before.before.collect.ensures) (taken_place (R.pop_if K.is_type) 3 _ _ c.before.before.before.before.before.before.before.before.p.given.1 c.before.before.before.before.before.before.before.before.before.before.pop_if.ensures.0) c.before.before.push-Kept.ensures)
+returns : tie.Need-returns-in-Place
+returns c = (applied_done _ _ refl (ap (λ (i : ℕ). c.in-Cells.l.sum + i + 1) c.field-size.ensures) (collected R.arguments _ _ c.in-Cells.is c.collect.ensures) (taken_place (R.pop_if K.is_type) 3 _ _ c.in-Place.is c.pop_if.ensures.0) c.push_kept.ensures)
 
 -- src/lib.rt:314:1
-same-length-2 : tie.Need-same-length-2
+same-length-2 : tie.Need-shape_of-ws-in-Nothing-pop_if
 same-length-2 c = search rules
 
 -- src/lib.rt:314:1
-returns-2 : tie.Need-returns-2
-returns-2 c = applied_baseless (collected R.arguments _ _ c.before.before.before.before.before.l.given.1 c.before.before.before.before.before.before.before.before.before.collect.ensures) (taken_nothing (R.pop_if K.is_type) 3 _ c.enum_told.given.1 c.before.before.pop_if.ensures.0)
+returns-2 : tie.Need-returns-in-Nothing-pop_if
+returns-2 c = applied_baseless (collected R.arguments _ _ c.in-Cells.is c.collect.ensures) (taken_nothing (R.pop_if K.is_type) 3 _ c.in-Nothing-pop_if.is c.pop_if.ensures.0)
 
 -- src/lib.rt:314:1
-same-length-3 : tie.Need-same-length-3
+same-length-3 : tie.Need-shape_of-ws-in-Nothing
 same-length-3 c = search rules
 
 -- src/lib.rt:314:1
-returns-3 : tie.Need-returns-3
-returns-3 c = applied_refused (not_collected R.arguments c.enum-told2.given.1 c.before.before.before.before.collect.ensures)
+returns-3 : tie.Need-returns-in-Nothing
+returns-3 c = applied_refused (not_collected R.arguments c.in-Nothing.is c.collect.ensures)
 
 pub apply_spec : {M : Type 1} → statement M
 apply_spec =

@@ -10,44 +10,44 @@ use Rattle.tree_types.proofs.archetype.Statement.{statement}
 use Rattle.tree_types.proofs.archetype.Tie as tie
 
 -- src/lib.rt:373:11
-assoc-type-name-requires : tie.Need-assoc-type-name-requires
-assoc-type-name-requires c κs = ready_none c.before.before.requires
+assoc-type-name-requires : tie.Need-assoc_type_name-requires
+assoc-type-name-requires c κs = ready_none c.requires
 
 -- src/lib.rt:374:25
-enum-known-name : tie.Need-enum-known-name
+enum-known-name : tie.Need-enum_known-name
 enum-known-name c = search rules
 
 -- src/lib.rt:375:17
-generic-param-requires : tie.Need-generic-param-requires
-generic-param-requires c κs = room (omega arith) (omega arith) (omega arith) (after_name (taken_name R.assoc_type_name _ _ c.before.before.name.given.1 c.before.before.before.before.assoc_type_name.ensures) c.before.before.before.before.before.before.before.requires)
+generic-param-requires : tie.Need-generic_param-base-requires
+generic-param-requires c κs = room (omega arith) (omega arith) (omega arith) (after_name (taken_name R.assoc_type_name _ _ c.in-Name.is c.assoc_type_name.ensures) c.requires)
 
 -- src/lib.rt:378:20
-cast-t16 : tie.Need-overflow-cast-t16
-cast-t16 c = record { fits = small_place _ c.before.before.before.generic_param.ensures.below (after_made c.before.before.before.generic_param.ensures (omega arith) (after_name (taken_name R.assoc_type_name _ _ c.before.before.before.before.before.before.name.given.1 c.before.before.before.before.before.before.before.before.assoc_type_name.ensures) c.before.before.before.before.before.before.before.before.before.before.before.requires)) }
+cast-t16 : tie.Need-overflow_cast-rest
+cast-t16 c = record { fits = small_place _ c.generic_param-base.ensures.below (after_made c.generic_param-base.ensures (omega arith) (after_name (taken_name R.assoc_type_name _ _ c.in-Name.is c.assoc_type_name.ensures) c.requires)) }
 
 -- src/lib.rt:384:24
-push-kept-requires : tie.Need-push-kept-requires
-push-kept-requires c κs = room (omega arith) (omega arith) (omega arith) (after_made c.before.before.before.before.before.generic_param.ensures (omega arith) (after_name (taken_name R.assoc_type_name _ _ c.before.before.before.before.before.before.before.before.name.given.1 c.before.before.before.before.before.before.before.before.before.before.assoc_type_name.ensures) c.before.before.before.before.before.before.before.before.before.before.before.before.before.requires))
+push-kept-requires : tie.Need-push_kept-requires
+push-kept-requires c κs = room (omega arith) (omega arith) (omega arith) (after_made c.generic_param-base.ensures (omega arith) (after_name (taken_name R.assoc_type_name _ _ c.in-Name.is c.assoc_type_name.ensures) c.requires))
 
 -- src/lib.rt:386:45
-enum_told : tie.Need-enum-told
+enum_told : tie.Need-enum_told-1
 enum_told c = search rules
 
 -- src/lib.rt:369:1
-same_length : tie.Need-same-length
+same_length : tie.Need-shape_of-ws-in-Name
 same_length c = search rules
 
 -- src/lib.rt:369:1
-returns : tie.Need-returns
-returns c = archetype_done (E.param c.before.before.before.before.before.before.before.before.before.before.before.before.before.before.before.before.args.param) _ _ refl (taken_name R.assoc_type_name _ _ c.before.before.before.before.before.before.before.before.before.before.before.name.given.1 c.before.before.before.before.before.before.before.before.before.before.before.before.before.assoc_type_name.ensures) c.before.before.before.before.before.before.before.before.generic_param.ensures c.before.before.push-Kept.ensures
+returns : tie.Need-returns-in-Name
+returns c = archetype_done (E.param c.args.param) _ _ refl (taken_name R.assoc_type_name _ _ c.in-Name.is c.assoc_type_name.ensures) c.generic_param-base.ensures c.push_kept.ensures
 
 -- src/lib.rt:369:1
-same-length-2 : tie.Need-same-length-2
+same-length-2 : tie.Need-shape_of-ws-in-Nothing
 same-length-2 c = search rules
 
 -- src/lib.rt:369:1
-returns-2 : tie.Need-returns-2
-returns-2 c = archetype_refused (E.param c.before.before.before.before.before.args.param) (nameless R.assoc_type_name c.enum_told.given.1 c.before.before.assoc_type_name.ensures)
+returns-2 : tie.Need-returns-in-Nothing
+returns-2 c = archetype_refused (E.param c.args.param) (nameless R.assoc_type_name c.in-Nothing.is c.assoc_type_name.ensures)
 
 pub archetype_spec : {M : Type 1} → statement M
 archetype_spec =

@@ -10,48 +10,48 @@ use Rattle.tree_types.proofs.member.Statement.{statement}
 use Rattle.tree_types.proofs.member.Tie as tie
 
 -- src/lib.rt:209:9
-took-requires : tie.Need-took-requires
-took-requires c κs = ready_none (gathering_ready c.before.before.requires)
+took-requires : tie.Need-took-first-requires
+took-requires c κs = ready_none (gathering_ready c.requires)
 
 -- src/lib.rt:211:11
 protocol-requires : tie.Need-protocol-requires
-protocol-requires c κs = ready_none (gathering_ready (gathering_marked c.before.before.took.ensures c.before.before.before.before.before.requires))
+protocol-requires c κs = ready_none (gathering_ready (gathering_marked c.took-first.ensures c.requires))
 
 -- src/lib.rt:212:23
-enum-known-p : tie.Need-enum-known-p
+enum-known-p : tie.Need-enum_known-p
 enum-known-p c = search rules
 
 -- src/lib.rt:213:17
-cell-requires : tie.Need-cell-requires
-cell-requires c κs = cell_fits (taken_place R.protocol 2 _ _ c.before.before.p.given.1 c.before.before.before.before.before.before.protocol.ensures) (gathering_marked c.before.before.before.before.before.before.before.before.before.took.ensures c.before.before.before.before.before.before.before.before.before.before.before.before.requires) (omega arith)
+cell-requires : tie.Need-cell-added-requires
+cell-requires c κs = cell_fits (taken_place R.protocol 2 _ _ c.in-Place.is c.protocol.ensures) (gathering_marked c.took-first.ensures c.requires) (omega arith)
 
 -- src/lib.rt:217:17
-same_length : tie.Need-same-length
+same_length : tie.Need-shape_of-ws-then-first
 same_length c = search rules
 
 -- src/lib.rt:217:17
-returns : tie.Need-returns
-returns c = (member_turns true c.if1.true c.before.before.before.before.before.before.before.before.before.before.before.before.before.before.before.took.ensures (taken_place R.protocol 2 _ _ c.before.before.before.before.before.before.before.before.p.given.1 c.before.before.before.before.before.before.before.before.before.before.before.before.protocol.ensures) c.before.before.before.before.before.cell.ensures).0
+returns : tie.Need-returns-then-first
+returns c = (member_turns true c.if-first.true c.took-first.ensures (taken_place R.protocol 2 _ _ c.in-Place.is c.protocol.ensures) c.cell-added.ensures).0
 
 -- src/lib.rt:221:28
-enum_told : tie.Need-enum-told
+enum_told : tie.Need-enum_told-1
 enum_told c = search rules
 
 -- src/lib.rt:205:1
-same-length-2 : tie.Need-same-length-2
+same-length-2 : tie.Need-shape_of-ws-else-first
 same-length-2 c = search rules
 
 -- src/lib.rt:205:1
-returns-2 : tie.Need-returns-2
-returns-2 c = member_turns false c.if1.false c.before.before.before.before.before.before.before.before.before.before.before.before.before.before.before.took.ensures (taken_place R.protocol 2 _ _ c.before.before.before.before.before.before.before.before.p.given.1 c.before.before.before.before.before.before.before.before.before.before.before.before.protocol.ensures) c.before.before.before.before.before.cell.ensures
+returns-2 : tie.Need-returns-else-first
+returns-2 c = member_turns false c.if-first.false c.took-first.ensures (taken_place R.protocol 2 _ _ c.in-Place.is c.protocol.ensures) c.cell-added.ensures
 
 -- src/lib.rt:205:1
-same-length-3 : tie.Need-same-length-3
+same-length-3 : tie.Need-shape_of-ws-in-Nothing
 same-length-3 c = search rules
 
 -- src/lib.rt:205:1
-returns-3 : tie.Need-returns-3
-returns-3 c = member_refused c.before.before.before.before.before.before.before.took.ensures (taken_not R.protocol 2 c.enum_told.given.1 c.before.before.before.before.protocol.ensures)
+returns-3 : tie.Need-returns-in-Nothing
+returns-3 c = member_refused c.took-first.ensures (taken_not R.protocol 2 c.in-Nothing.is c.protocol.ensures)
 
 pub member_spec : {M : Type 1} → statement M
 member_spec =

@@ -14,30 +14,30 @@ wrap-requires : tie.Need-wrap-requires
 wrap-requires c κs = search rules
 
 -- src/lib.rt:308:25
-enum-known-u : tie.Need-enum-known-u
+enum-known-u : tie.Need-enum_known-u
 enum-known-u c = search rules
 
 -- src/lib.rt:308:31
-over-list-requires : tie.Need-over-list-requires
-over-list-requires c κs = after_wrap (wrapped_next _ c.before.before.u.given.1 c.before.before.before.before.wrap.ensures _ _) c.before.before.before.before.before.before.requires
+over-list-requires : tie.Need-over_list-requires
+over-list-requires c κs = after_wrap (wrapped_next _ c.in-Next.is c.wrap.ensures _ _) c.requires
 
 -- src/lib.rt:309:45
-enum_told : tie.Need-enum-told
+enum_told : tie.Need-enum_told-1
 enum_told c = search rules
 
 -- src/lib.rt:303:1
-same_length : tie.Need-same-length
+same_length : tie.Need-shape_of-ws
 same_length c = search rules
 
 -- src/lib.rt:303:1
-returns : tie.Need-returns
+returns : tie.Need-returns-in-Next
 unfolding R.protocol_list
-returns c = wrapped_then (delimited R.members ProtocolList) _ (wrapped_next _ c.before.before.before.before.before.u.given.1 c.before.before.before.before.before.before.before.wrap.ensures _ _) (c.before.before.over-list.ensures ProtocolList protocol_list_node)
+returns c = wrapped_then (delimited R.members ProtocolList) _ (wrapped_next _ c.in-Next.is c.wrap.ensures _ _) (c.over_list.ensures ProtocolList protocol_list_node)
 
 -- src/lib.rt:303:1
-returns-2 : tie.Need-returns-2
+returns-2 : tie.Need-returns-in-Refused
 unfolding R.protocol_list
-returns-2 c = wrapped_refused (delimited R.members ProtocolList) (wrapped_not c.enum_told.given.1 c.before.before.wrap.ensures _ _)
+returns-2 c = wrapped_refused (delimited R.members ProtocolList) (wrapped_not c.in-Refused.is c.wrap.ensures _ _)
 
 pub protocol_list_spec : {M : Type 1} → statement M
 protocol_list_spec =

@@ -9,29 +9,29 @@ use Rattle.check_run.proofs.turns.begin.Tie as tie
 step-requires : tie.Need-step-requires
 step-requires c κs = search rules
 
-enum-known-stepped : tie.Need-enum-known-stepped
+enum-known-stepped : tie.Need-enum_known-stepped
 enum-known-stepped c = search rules
 
 charge-requires : tie.Need-charge-requires
 charge-requires c κs = search rules
 
-enum-known-charged : tie.Need-enum-known-charged
+enum-known-charged : tie.Need-enum_known-charged
 enum-known-charged c = search rules
 
-enum-known-r : tie.Need-enum-known-r
+enum-known-r : tie.Need-enum_known-r
 enum-known-r c = search rules
 
-enum-known-r-2 : tie.Need-enum-known-r-2
+enum-known-r-2 : tie.Need-enum_known-r-in-Refused-step
 enum-known-r-2 c = search rules
 
-returns : tie.Need-returns
-returns c = charged c.before.before.before.before.before.before.before.before.before.args.ceiling c.before.before.before.before.before.before.before.before.before.args.st c.before.before.before.before.before.stepped.given.0.0 (left (B.step (budget_of c.before.before.before.before.before.before.before.before.before.args.st.budget)) c.before.before.before.before.before.stepped.given.1 c.before.before.before.before.before.before.before.step.ensures) c.before.charged.given.0.0 (left (B.charge c.before.before.before.before.before.before.before.before.before.args.ceiling 1 (budget_of c.before.before.before.before.before.stepped.given.0.0)) c.before.charged.given.1 c.before.before.before.charge.ensures)
+returns : tie.Need-returns-in-Left-charge
+returns c = charged c.args.ceiling c.args.st c.in-Left.stepped (left (B.step (budget_of c.args.st.budget)) c.in-Left.is c.step.ensures) c.in-Left-charge.charged (left (B.charge c.args.ceiling 1 (budget_of c.in-Left.stepped)) c.in-Left-charge.is c.charge.ensures)
 
-returns-2 : tie.Need-returns-2
-returns-2 c = no_charge c.before.before.before.before.before.before.before.before.before.args.ceiling c.before.before.before.before.before.before.before.before.before.args.st c.before.before.before.before.before.stepped.given.0.0 (left (B.step (budget_of c.before.before.before.before.before.before.before.before.before.args.st.budget)) c.before.before.before.before.before.stepped.given.1 c.before.before.before.before.before.before.before.step.ensures) c.before.r.given.0.0 (not_left (B.charge c.before.before.before.before.before.before.before.before.before.args.ceiling 1 (budget_of c.before.before.before.before.before.stepped.given.0.0)) c.before.r.given.1 c.before.before.before.charge.ensures)
+returns-2 : tie.Need-returns-in-Refused-charge
+returns-2 c = no_charge c.args.ceiling c.args.st c.in-Left.stepped (left (B.step (budget_of c.args.st.budget)) c.in-Left.is c.step.ensures) c.in-Refused-charge.r (not_left (B.charge c.args.ceiling 1 (budget_of c.in-Left.stepped)) c.in-Refused-charge.is c.charge.ensures)
 
-returns-3 : tie.Need-returns-3
-returns-3 c = no_step c.before.before.before.before.before.args.ceiling c.before.before.before.before.before.args.st c.before.r2.given.0.0 (not_left (B.step (budget_of c.before.before.before.before.before.args.st.budget)) c.before.r2.given.1 c.before.before.before.step.ensures)
+returns-3 : tie.Need-returns-in-Refused
+returns-3 c = no_step c.args.ceiling c.args.st c.in-Refused.r (not_left (B.step (budget_of c.args.st.budget)) c.in-Refused.is c.step.ensures)
 
 pub begin_spec : {M : Type 1} → statement M
 begin_spec =

@@ -9,29 +9,29 @@ use borrow.Author.Rules.{rules}
 use Rattle.check_run.proofs.turns.named.Statement.{statement}
 use Rattle.check_run.proofs.turns.named.Tie as tie
 
-read : (c : tie.After-count) → Counts (Ch.identifier c.before.before.before.before.before.args.st.words (drop c.before.before.before.before.before.args.c.at c.before.before.before.before.before.args.text.now)) c.before.before.before.before.before.args.text.now c.before.before.before.before.before.args.c.at c.count.given.0.0 c.count.given.0.1.0
-read c = subst (Counted (Ch.identifier c.before.before.before.before.before.args.st.words (drop c.before.before.before.before.before.args.c.at c.before.before.before.before.before.args.text.now)) c.before.before.before.before.before.args.text.now c.before.before.before.before.before.args.c.at) c.count.given.1 c.before.before.identifier-count.ensures
+read : (c : tie.In-Read) → Counts (Ch.identifier c.args.st.words (drop c.args.c.at c.args.text.now)) c.args.text.now c.args.c.at c.in-Read.count c.in-Read.next
+read c = subst (Counted (Ch.identifier c.args.st.words (drop c.args.c.at c.args.text.now)) c.args.text.now c.args.c.at) c.in-Read.is c.identifier_count.ensures
 
-identifier-count-requires : tie.Need-identifier-count-requires
-identifier-count-requires c κs = (c.before.before.requires.1, c.before.before.requires.2, c.before.before.requires.3)
+identifier-count-requires : tie.Need-identifier_count-requires
+identifier-count-requires c κs = (c.requires.1, c.requires.2, c.requires.3)
 
-enum-known-count : tie.Need-enum-known-count
+enum-known-count : tie.Need-enum_known-count
 enum-known-count c = search rules
 
 name-requires : tie.Need-name-requires
-name-requires c κs = c.before.before.before.before.before.before.before.requires.0
+name-requires c κs = c.requires.0
 
-enum-known-f : tie.Need-enum-known-f
+enum-known-f : tie.Need-enum_known-f
 enum-known-f c = search rules
 
-same_length : tie.Need-same-length
+same_length : tie.Need-shape_of-ws
 same_length c = search rules
 
-returns : tie.Need-returns
-returns c = then_wrote (λ x. Ch.name c.before.before.before.before.before.before.before.before.before.before.args.ceiling x.words) c.before.before.before.before.before.before.before.before.before.before.args.ceiling c.before.before.before.before.before.before.before.before.before.before.args.ws.now c.before.before.before.before.before.before.before.before.before.before.args.st c.before.before.before.before.before.before.before.before.before.before.args.text.now (read c.before.before.before.before.before).is (read c.before.before.before.before.before).inside c.before.before.name.ensures (sound_name c.before.before.before.before.before.count.given.0.0 c.before.before.before.before.before.before.before.before.before.before.requires.0 c.before.before.name.ensures)
+returns : tie.Need-returns-in-Read
+returns c = then_wrote (λ x. Ch.name c.args.ceiling x.words) c.args.ceiling c.args.ws.now c.args.st c.args.text.now (read c.before.before.before.before).is (read c.before.before.before.before).inside c.name.ensures (sound_name c.in-Read.count c.requires.0 c.name.ensures)
 
-returns-2 : tie.Need-returns-2
-returns-2 c = not_read (λ x. Ch.name c.before.before.before.before.before.before.args.ceiling x.words) c.before.before.before.before.before.before.args.ceiling c.before.before.before.before.before.before.args.ws.now c.before.before.before.before.before.before.args.st (subst (Counted (Ch.identifier c.before.before.before.before.before.before.args.st.words (drop c.before.before.before.before.before.before.args.c.at c.before.before.before.before.before.before.args.text.now)) c.before.before.before.before.before.before.args.text.now c.before.before.before.before.before.before.args.c.at) c.before.f.given.1 c.before.before.before.identifier-count.ensures)
+returns-2 : tie.Need-returns-in-Refused
+returns-2 c = not_read (λ x. Ch.name c.args.ceiling x.words) c.args.ceiling c.args.ws.now c.args.st (subst (Counted (Ch.identifier c.args.st.words (drop c.args.c.at c.args.text.now)) c.args.text.now c.args.c.at) c.in-Refused.is c.identifier_count.ensures)
 
 pub named_spec : {M : Type 1} → statement M
 named_spec =

@@ -12,23 +12,23 @@ use Rattle.check_run.proofs.turns.performed.Tie as tie
 perform-requires : tie.Need-perform-requires
 perform-requires c κs = search rules
 
-enum-known-u : tie.Need-enum-known-u
+enum-known-u : tie.Need-enum_known-u
 enum-known-u c = search rules
 
-enum-known-r : tie.Need-enum-known-r
+enum-known-r : tie.Need-enum_known-r
 enum-known-r c = search rules
 
-same_length : tie.Need-same-length
+same_length : tie.Need-shape_of-ws-in-Done
 same_length c = search rules
 
-returns : tie.Need-returns
-returns c = let h = was_done (C.run_row c.before.before.before.before.before.before.before.before.args.ceiling (C.row (Enums.operator fixed c.before.before.before.before.before.before.before.before.args.op))) c.before.before.before.before.before.before.before.before.args.ceiling c.before.before.before.before.before.before.before.before.args.ws.now c.before.before.before.before.before.perform.new.0 c.before.before.before.before.before.before.before.before.args.st c.before.u.given.1 (c.before.before.before.before.before.perform.ensures fixed) in record { wrote = h; sound = sound_row (Enums.operator fixed c.before.before.before.before.before.before.before.before.args.op) c.before.before.before.before.before.before.before.before.requires h; same = refl }
+returns : tie.Need-returns-in-Done
+returns c = let h = was_done (C.run_row c.args.ceiling (C.row (Enums.operator fixed c.args.op))) c.args.ceiling c.args.ws.now c.perform.new.ws c.args.st c.in-Done.is (c.perform.ensures fixed) in record { wrote = h; sound = sound_row (Enums.operator fixed c.args.op) c.requires h; same = refl }
 
-same-length-2 : tie.Need-same-length-2
+same-length-2 : tie.Need-shape_of-ws-in-Refused
 same-length-2 c = search rules
 
-returns-2 : tie.Need-returns-2
-returns-2 c = was_not_done (C.run_row c.before.before.before.before.before.before.before.before.args.ceiling (C.row (Enums.operator fixed c.before.before.before.before.before.before.before.before.args.op))) c.before.before.before.before.before.before.before.before.args.ceiling c.before.before.before.before.before.before.before.before.args.ws.now c.before.before.before.before.before.perform.new.0 c.before.before.before.before.before.before.before.before.args.st c.before.r.given.1 (c.before.before.before.before.before.perform.ensures fixed)
+returns-2 : tie.Need-returns-in-Refused
+returns-2 c = was_not_done (C.run_row c.args.ceiling (C.row (Enums.operator fixed c.args.op))) c.args.ceiling c.args.ws.now c.perform.new.ws c.args.st c.in-Refused.is (c.perform.ensures fixed)
 
 pub performed_spec : {M : Type 1} → statement M
 performed_spec =

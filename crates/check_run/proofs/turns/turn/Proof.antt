@@ -8,23 +8,23 @@ use Rattle.check_run.proofs.turns.turn.Tie as tie
 begin-requires : tie.Need-begin-requires
 begin-requires c κs = search rules
 
-enum-known-u : tie.Need-enum-known-u
+enum-known-u : tie.Need-enum_known-u
 enum-known-u c = search rules
 
 operated-requires : tie.Need-operated-requires
-operated-requires c κs = (begin_sound c.before.before.before.before.before.before.before.args.ceiling c.before.before.before.before.before.before.before.args.ws.now c.before.before.before.before.before.before.before.args.st (begun c.before.before.before.before.before.before.before.args.ceiling c.before.before.before.before.before.before.before.args.st c.before.before.u.given.1 c.before.before.before.before.begin.ensures) c.before.before.before.before.before.before.before.requires.0, c.before.before.before.before.before.before.before.requires.1, c.before.before.before.before.before.before.before.requires.2)
+operated-requires c κs = (begin_sound c.args.ceiling c.args.ws.now c.args.st (begun c.args.ceiling c.args.st c.in-Next.is c.begin.ensures) c.requires.0, c.requires.1, c.requires.2)
 
-enum-known-r : tie.Need-enum-known-r
+enum-known-r : tie.Need-enum_known-r
 enum-known-r c = search rules
 
-same_length : tie.Need-same-length
+same_length : tie.Need-shape_of-ws
 same_length c = search rules
 
-returns : tie.Need-returns
-returns c = turn_then c.before.before.before.before.before.before.before.before.before.before.args.ceiling c.before.before.before.before.before.before.before.before.before.before.args.ws.now c.before.before.before.before.before.before.before.before.before.before.args.st (begun c.before.before.before.before.before.before.before.before.before.before.args.ceiling c.before.before.before.before.before.before.before.before.before.before.args.st c.before.before.before.before.before.u.given.1 c.before.before.before.before.before.before.before.begin.ensures) c.before.before.before.before.before.before.before.before.before.before.args.text.now c.before.before.before.before.before.before.before.before.before.before.args.c.at c.before.before.operated.new.1.1.0 c.before.before.operated.result c.before.before.operated.ensures
+returns : tie.Need-returns-in-Next
+returns c = turn_then c.args.ceiling c.args.ws.now c.args.st (begun c.args.ceiling c.args.st c.in-Next.is c.begin.ensures) c.args.text.now c.args.c.at c.operated.new.ws.1.0 c.operated.result c.operated.ensures
 
-returns-2 : tie.Need-returns-2
-returns-2 c = turn_not c.before.before.before.before.before.before.args.ceiling c.before.before.before.before.before.before.args.ws.now c.before.before.before.before.before.before.args.st c.before.r.given.0.0 (not_begun c.before.before.before.before.before.before.args.ceiling c.before.before.before.before.before.before.args.st c.before.r.given.1 c.before.before.before.begin.ensures) (drop c.before.before.before.before.before.before.args.c.at c.before.before.before.before.before.before.args.text.now)
+returns-2 : tie.Need-returns-in-Refused
+returns-2 c = turn_not c.args.ceiling c.args.ws.now c.args.st c.in-Refused.r (not_begun c.args.ceiling c.args.st c.in-Refused.is c.begin.ensures) (drop c.args.c.at c.args.text.now)
 
 pub turn_spec : {M : Type 1} → statement M
 turn_spec =

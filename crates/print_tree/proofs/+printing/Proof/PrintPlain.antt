@@ -11,9 +11,9 @@ use Rattle.print_tree.proofs.print.Reads as print
 use Rattle.print_tree.proofs.print_cells.Reads as print-cells
 use Rattle.print_tree.proofs.print_params.Reads as print_params
 use Rattle.print_tree.proofs.print_plain.Reads as print-plain
-use Rattle.print_tree.proofs.+print_print_behind_print_cell_print_cells_print_params_print_plain_print_signed.Lts-print_plain as print-plain-lts
+use Rattle.print_tree.proofs.+printing.Lts-print_plain as print-plain-lts
 use Rattle.print_tree.proofs.print_signed.Reads as print-signed
-use Rattle.print_tree.proofs.+print_print_behind_print_cell_print_cells_print_params_print_plain_print_signed.Proof.Base.{print_plain_at, print_plain_claims}
+use Rattle.print_tree.proofs.+printing.Proof.Base.{print_plain_at, print_plain_claims}
 
 pub print_plain_put_text_requires : (t : ℕ) → print-plain-lts.Need-put-text-requires (print_plain_claims t) (print_plain_at t) print-plain.Post
 print_plain_put_text_requires t c κs = let b = (c.before.before.before.before.before.requires.1.1.1.is.text c.before.if1.true).0 in (c.before.before.before.before.before.requires.1.0, omega (arith, b, c.before.if1.true))

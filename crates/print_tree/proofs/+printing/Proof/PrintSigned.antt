@@ -7,8 +7,8 @@ use Prim.Native.Nat.{ℕ}
 use Rattle.print_tree.proofs.print.Reads as print
 use Rattle.print_tree.proofs.print_behind.Reads as print-behind
 use Rattle.print_tree.proofs.print_signed.Reads as print-signed
-use Rattle.print_tree.proofs.+print_print_behind_print_cell_print_cells_print_params_print_plain_print_signed.Lts-print_signed as print-signed-lts
-use Rattle.print_tree.proofs.+print_print_behind_print_cell_print_cells_print_params_print_plain_print_signed.Proof.Base.{print_signed_at, print_signed_claims}
+use Rattle.print_tree.proofs.+printing.Lts-print_signed as print-signed-lts
+use Rattle.print_tree.proofs.+printing.Proof.Base.{print_signed_at, print_signed_claims}
 
 pub print_signed_get_requires : (t : ℕ) → print-signed-lts.Need-get-requires (print_signed_claims t) (print_signed_at t) print-signed.Post
 print_signed_get_requires t c κs = (c.before.before.before.requires.1.1.0.long, omega arith)

@@ -6,9 +6,9 @@ use Rattle.print_tree.proofs.CycleLaws.{function_params, function_result, functi
 use Prim.Native.Nat.{ℕ}
 use Rattle.print_tree.proofs.print.Reads as print
 use Rattle.print_tree.proofs.print_behind.Reads as print-behind
-use Rattle.print_tree.proofs.+print_print_behind_print_cell_print_cells_print_params_print_plain_print_signed.Lts-print_behind as print-behind-lts
+use Rattle.print_tree.proofs.+printing.Lts-print_behind as print-behind-lts
 use Rattle.print_tree.proofs.print_params.Reads as print_params
-use Rattle.print_tree.proofs.+print_print_behind_print_cell_print_cells_print_params_print_plain_print_signed.Proof.Base.{print_behind_at, print_behind_claims}
+use Rattle.print_tree.proofs.+printing.Proof.Base.{print_behind_at, print_behind_claims}
 
 pub print_behind_get_requires : (t : ℕ) → print-behind-lts.Need-get-requires (print_behind_claims t) (print_behind_at t) print-behind.Post
 print_behind_get_requires t c κs = (c.before.before.before.requires.1.1.0.long, omega arith)

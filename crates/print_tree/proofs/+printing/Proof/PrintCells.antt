@@ -6,8 +6,8 @@ use Rattle.print_tree.proofs.CycleLaws.{Celling, celling_first, cell_below, cell
 -- The results of print-cells.
 use Rattle.print_tree.proofs.print_cell.Reads as print-cell
 use Rattle.print_tree.proofs.print_cells.Reads as print-cells
-use Rattle.print_tree.proofs.+print_print_behind_print_cell_print_cells_print_params_print_plain_print_signed.Lts-print_cells as print-cells-lts
-use Rattle.print_tree.proofs.+print_print_behind_print_cell_print_cells_print_params_print_plain_print_signed.Proof.Base.{print_cells_at, print_cells_claims}
+use Rattle.print_tree.proofs.+printing.Lts-print_cells as print-cells-lts
+use Rattle.print_tree.proofs.+printing.Proof.Base.{print_cells_at, print_cells_claims}
 
 abbrev pub print_cells_Inv_loop : print-cells-lts.invariant-loop
 print_cells_Inv_loop out₀ at room ws text starts lengths known p count sep shown host₀ k₀ labels₀ r₀ i₀ out host k labels r i = Celling (naming text (lent starts lengths known)) ws p k₀ count sep shown labels₀ room out₀ at out host k labels r i

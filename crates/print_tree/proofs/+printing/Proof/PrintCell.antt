@@ -4,8 +4,8 @@ use Rattle.print_tree.proofs.CycleLaws.{celled_label, celled_below, celled_print
 use Prim.Native.Nat.{ℕ, ◌<◌}
 use Rattle.print_tree.proofs.print.Reads as print
 use Rattle.print_tree.proofs.print_cell.Reads as print-cell
-use Rattle.print_tree.proofs.+print_print_behind_print_cell_print_cells_print_params_print_plain_print_signed.Lts-print_cell as print-cell-lts
-use Rattle.print_tree.proofs.+print_print_behind_print_cell_print_cells_print_params_print_plain_print_signed.Proof.Base.{print_cell_at, print_cell_claims}
+use Rattle.print_tree.proofs.+printing.Lts-print_cell as print-cell-lts
+use Rattle.print_tree.proofs.+printing.Proof.Base.{print_cell_at, print_cell_claims}
 
 pub print_cell_put_sep_requires : (t : ℕ) → print-cell-lts.Need-put-sep-requires (print_cell_claims t) (print_cell_at t) print-cell.Post
 print_cell_put_sep_requires t c κs = (c.before.before.before.before.requires.1.0, c.before.before.before.before.requires.1.1.1.0)

@@ -7,8 +7,8 @@ use Prim.Native.Nat.{ℕ}
 use Rattle.print_tree.proofs.print.Reads as print
 use Rattle.print_tree.proofs.print_cells.Reads as print-cells
 use Rattle.print_tree.proofs.print_params.Reads as print_params
-use Rattle.print_tree.proofs.+print_print_behind_print_cell_print_cells_print_params_print_plain_print_signed.Lts-print_params as print-params-lts
-use Rattle.print_tree.proofs.+print_print_behind_print_cell_print_cells_print_params_print_plain_print_signed.Proof.Base.{print_params_at, print_params_claims}
+use Rattle.print_tree.proofs.+printing.Lts-print_params as print-params-lts
+use Rattle.print_tree.proofs.+printing.Proof.Base.{print_params_at, print_params_claims}
 
 pub print_params_get_requires : (t : ℕ) → print-params-lts.Need-get-requires (print_params_claims t) (print_params_at t) print_params.Post
 print_params_get_requires t c κs = (c.before.before.before.requires.1.1.0.long, omega arith)

@@ -5,9 +5,9 @@ use Rattle.print_tree.proofs.CycleLaws.{puts_by, placed, Rowing, rowing_first, r
 -- The results of print.
 use Prim.Native.Nat.{ℕ}
 use Rattle.print_tree.proofs.print.Reads as print
-use Rattle.print_tree.proofs.+print_print_behind_print_cell_print_cells_print_params_print_plain_print_signed.Lts-print as print-lts
+use Rattle.print_tree.proofs.+printing.Lts-print as print-lts
 use Rattle.print_tree.proofs.print_plain.Reads as print-plain
-use Rattle.print_tree.proofs.+print_print_behind_print_cell_print_cells_print_params_print_plain_print_signed.Proof.Base.{print_at, print_claims}
+use Rattle.print_tree.proofs.+printing.Proof.Base.{print_at, print_claims}
 
 abbrev pub print_Inv_loop : print-lts.invariant-loop
 print_Inv_loop out₀ at room ws text starts lengths known p row₀ r₀ out row r = Rowing (naming text (lent starts lengths known)) ws p row₀ room out₀ at out row r
