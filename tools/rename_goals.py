@@ -48,6 +48,7 @@ class Names:
         self.needs = of["needs"]
         self.asked_at = [self.promoted(norm(a[0]), True) for a in of["asked_at"]]
         self.loops = [it[0] for it in of["loops"]]
+        self.params = of["params"]
         self.args = {}
         for old, new in of["args"]:
             a, b = old.replace(" ", "").split("."), new.replace(" ", "").split(".")
@@ -123,10 +124,12 @@ class Names:
                     lent = lent_to(callee)
                     if int(rest[1]) < len(lent):
                         rest = ["auto", lent[int(rest[1])]] + rest[2:]
-                if len(rest) > 1 and rest[0] == "new" and rest[1].isdigit() and callee:
-                    lent = lent_to(callee, "&")
-                    if int(rest[1]) < len(lent):
-                        rest = ["new", lent[int(rest[1])]] + rest[2:]
+                if len(rest) > 1 and rest[0] == "new" and rest[1].isdigit() and callee in self.params:
+                    # The parameters were a pair of the first and the others.
+                    k = 1
+                    while rest[k] == "1":
+                        k += 1
+                    rest = ["new", self.params[callee][k - 1]] + rest[k + 1:]
                 return [step[1]] + rest
             seek = parent
         return None

@@ -58,16 +58,16 @@ loop-less : tie.Need-loop-i-smaller-in-To invariant-loop decreases-loop
 loop-less c = omega (arith, c.loop-i-test.true)
 
 loop-again : tie.Need-loop-i-preserved-in-To invariant-loop decreases-loop
-loop-again c = run_named c.loop-i.invariant (omega (arith, c.if-body-at.false)) c.loop-i-test.true c.count_waiting.result c.count_waiting.ensures _ c.new-waiting-then-b-held.ensures.0 (c.new-waiting-then-b-held.ensures.1 c.args.body.now) (reached (Calls.turn c.args.ceiling (Ch.one c.args.ceiling) (drop c.loop-i.c.at c.args.body.now)) c.args.ceiling c.args.body.now c.loop-i.ws c.name_turn.new.ws.1.0 (with_words c.count_waiting.result c.loop-i.st) c.in-To.is c.name_turn.ensures)
+loop-again c = run_named c.loop-i.invariant (omega (arith, c.if-body-at.false)) c.loop-i-test.true c.count_waiting.result c.count_waiting.ensures _ c.new-waiting-then-b-held.ensures.0 (c.new-waiting-then-b-held.ensures.1 c.args.body.now) (reached (Calls.turn c.args.ceiling (Ch.one c.args.ceiling) (drop c.loop-i.c.at c.args.body.now)) c.args.ceiling c.args.body.now c.loop-i.ws c.name_turn.new.ws (with_words c.count_waiting.result c.loop-i.st) c.in-To.is c.name_turn.ensures)
 
 enum-known-r : tie.Need-enum_known-r invariant-loop decreases-loop
 enum-known-r c = search rules
 
 same-length-2 : tie.Need-shape_of-ws-in-Refused invariant-loop decreases-loop
-same-length-2 c = (run_not_named c.loop-i.invariant (omega (arith, c.if-body-at.false)) c.loop-i-test.true c.count_waiting.result c.count_waiting.ensures _ (not_reached (Calls.turn c.args.ceiling (Ch.one c.args.ceiling) (drop c.loop-i.c.at c.args.body.now)) c.args.ceiling c.args.body.now c.loop-i.ws c.name_turn.new.ws.1.0 (with_words c.count_waiting.result c.loop-i.st) c.in-Refused.is c.name_turn.ensures)).outside.long
+same-length-2 c = (run_not_named c.loop-i.invariant (omega (arith, c.if-body-at.false)) c.loop-i-test.true c.count_waiting.result c.count_waiting.ensures _ (not_reached (Calls.turn c.args.ceiling (Ch.one c.args.ceiling) (drop c.loop-i.c.at c.args.body.now)) c.args.ceiling c.args.body.now c.loop-i.ws c.name_turn.new.ws (with_words c.count_waiting.result c.loop-i.st) c.in-Refused.is c.name_turn.ensures)).outside.long
 
 returns-2 : tie.Need-returns-in-Refused invariant-loop decreases-loop
-returns-2 c = run_not_named c.loop-i.invariant (omega (arith, c.if-body-at.false)) c.loop-i-test.true c.count_waiting.result c.count_waiting.ensures _ (not_reached (Calls.turn c.args.ceiling (Ch.one c.args.ceiling) (drop c.loop-i.c.at c.args.body.now)) c.args.ceiling c.args.body.now c.loop-i.ws c.name_turn.new.ws.1.0 (with_words c.count_waiting.result c.loop-i.st) c.in-Refused.is c.name_turn.ensures)
+returns-2 c = run_not_named c.loop-i.invariant (omega (arith, c.if-body-at.false)) c.loop-i-test.true c.count_waiting.result c.count_waiting.ensures _ (not_reached (Calls.turn c.args.ceiling (Ch.one c.args.ceiling) (drop c.loop-i.c.at c.args.body.now)) c.args.ceiling c.args.body.now c.loop-i.ws c.name_turn.new.ws (with_words c.count_waiting.result c.loop-i.st) c.in-Refused.is c.name_turn.ensures)
 
 plain-turn-requires : tie.Need-plain_turn-requires invariant-loop decreases-loop
 plain-turn-requires c κs = (c.loop-i.invariant.sound, (omega (arith, c.if-body-at.false)), sym c.is_digit.ensures ∙ c.if-is_digit.true, no_zero (get_or c.args.body.now c.loop-i.c.at 0) c.loop-i.waiting.count c.if-b-held.false, c.requires.3)
@@ -76,7 +76,7 @@ enum-known-u-2 : tie.Need-enum_known-u-in-To-plain_turn invariant-loop decreases
 enum-known-u-2 c = search rules
 
 wait-requires : tie.Need-wait-waiting-requires invariant-loop decreases-loop
-wait-requires c κs = (room_left (get_or c.args.body.now c.loop-i.c.at 0) c.loop-i.waiting.count c.if-b-held.false c.loop-i.invariant.waits.few, omega (arith, (plain_reached c.args.ceiling c.args.body.now c.loop-i.c.at c.loop-i.ws c.plain_turn.new.ws.1.0 c.loop-i.st c.in-To-plain_turn.is c.plain_turn.ensures).some), omega (arith, (plain_reached c.args.ceiling c.args.body.now c.loop-i.c.at c.loop-i.ws c.plain_turn.new.ws.1.0 c.loop-i.st c.in-To-plain_turn.is c.plain_turn.ensures).inside, c.requires.2))
+wait-requires c κs = (room_left (get_or c.args.body.now c.loop-i.c.at 0) c.loop-i.waiting.count c.if-b-held.false c.loop-i.invariant.waits.few, omega (arith, (plain_reached c.args.ceiling c.args.body.now c.loop-i.c.at c.loop-i.ws c.plain_turn.new.ws c.loop-i.st c.in-To-plain_turn.is c.plain_turn.ensures).some), omega (arith, (plain_reached c.args.ceiling c.args.body.now c.loop-i.c.at c.loop-i.ws c.plain_turn.new.ws c.loop-i.st c.in-To-plain_turn.is c.plain_turn.ensures).inside, c.requires.2))
 
 add-i-2 : tie.Need-overflow_add-i-in-To-plain_turn invariant-loop decreases-loop
 add-i-2 c = omega (arith, c.loop-i-test.true, c.ranges)
@@ -85,16 +85,16 @@ loop-less-2 : tie.Need-loop-i-smaller-in-To-plain_turn invariant-loop decreases-
 loop-less-2 c = omega (arith, c.loop-i-test.true)
 
 loop-again-2 : tie.Need-loop-i-preserved-in-To-plain_turn invariant-loop decreases-loop
-loop-again-2 c = run_plain c.loop-i.invariant (omega (arith, c.if-body-at.false)) c.loop-i-test.true _ (plain_reached c.args.ceiling c.args.body.now c.loop-i.c.at c.loop-i.ws c.plain_turn.new.ws.1.0 c.loop-i.st c.in-To-plain_turn.is c.plain_turn.ensures) (c.wait-waiting.ensures c.args.body.now (plain_reached c.args.ceiling c.args.body.now c.loop-i.c.at c.loop-i.ws c.plain_turn.new.ws.1.0 c.loop-i.st c.in-To-plain_turn.is c.plain_turn.ensures).inside c.loop-i.invariant.waits)
+loop-again-2 c = run_plain c.loop-i.invariant (omega (arith, c.if-body-at.false)) c.loop-i-test.true _ (plain_reached c.args.ceiling c.args.body.now c.loop-i.c.at c.loop-i.ws c.plain_turn.new.ws c.loop-i.st c.in-To-plain_turn.is c.plain_turn.ensures) (c.wait-waiting.ensures c.args.body.now (plain_reached c.args.ceiling c.args.body.now c.loop-i.c.at c.loop-i.ws c.plain_turn.new.ws c.loop-i.st c.in-To-plain_turn.is c.plain_turn.ensures).inside c.loop-i.invariant.waits)
 
 enum-known-r-2 : tie.Need-enum_known-r-in-Refused-plain_turn invariant-loop decreases-loop
 enum-known-r-2 c = search rules
 
 same-length-3 : tie.Need-shape_of-ws-in-Refused-plain_turn invariant-loop decreases-loop
-same-length-3 c = (run_not_plain c.loop-i.invariant (omega (arith, c.if-body-at.false)) c.loop-i-test.true _ (plain_not_reached c.args.ceiling c.args.body.now c.loop-i.c.at c.loop-i.ws c.plain_turn.new.ws.1.0 c.loop-i.st c.in-Refused-plain_turn.is c.plain_turn.ensures)).outside.long
+same-length-3 c = (run_not_plain c.loop-i.invariant (omega (arith, c.if-body-at.false)) c.loop-i-test.true _ (plain_not_reached c.args.ceiling c.args.body.now c.loop-i.c.at c.loop-i.ws c.plain_turn.new.ws c.loop-i.st c.in-Refused-plain_turn.is c.plain_turn.ensures)).outside.long
 
 returns-3 : tie.Need-returns-in-Refused-plain_turn invariant-loop decreases-loop
-returns-3 c = run_not_plain c.loop-i.invariant (omega (arith, c.if-body-at.false)) c.loop-i-test.true _ (plain_not_reached c.args.ceiling c.args.body.now c.loop-i.c.at c.loop-i.ws c.plain_turn.new.ws.1.0 c.loop-i.st c.in-Refused-plain_turn.is c.plain_turn.ensures)
+returns-3 c = run_not_plain c.loop-i.invariant (omega (arith, c.if-body-at.false)) c.loop-i-test.true _ (plain_not_reached c.args.ceiling c.args.body.now c.loop-i.c.at c.loop-i.ws c.plain_turn.new.ws c.loop-i.st c.in-Refused-plain_turn.is c.plain_turn.ensures)
 
 turn-requires : tie.Need-turn-requires invariant-loop decreases-loop
 turn-requires c κs = (c.loop-i.invariant.sound, (omega (arith, c.if-body-at.false)), sym c.is_digit.ensures ∙ c.if-is_digit.false)
@@ -109,16 +109,16 @@ loop-less-3 : tie.Need-loop-i-smaller invariant-loop decreases-loop
 loop-less-3 c = omega (arith, c.loop-i-test.true)
 
 loop-again-3 : tie.Need-loop-i-preserved invariant-loop decreases-loop
-loop-again-3 c = run_more c.loop-i.invariant (omega (arith, c.if-body-at.false)) c.loop-i-test.true (sym c.is_digit.ensures ∙ c.if-is_digit.false) _ (reached (Calls.turn c.args.ceiling (Ch.one c.args.ceiling) (drop c.loop-i.c.at c.args.body.now)) c.args.ceiling c.args.body.now c.loop-i.ws c.turn.new.ws.1.0 c.loop-i.st c.in-To-turn.is c.turn.ensures)
+loop-again-3 c = run_more c.loop-i.invariant (omega (arith, c.if-body-at.false)) c.loop-i-test.true (sym c.is_digit.ensures ∙ c.if-is_digit.false) _ (reached (Calls.turn c.args.ceiling (Ch.one c.args.ceiling) (drop c.loop-i.c.at c.args.body.now)) c.args.ceiling c.args.body.now c.loop-i.ws c.turn.new.ws c.loop-i.st c.in-To-turn.is c.turn.ensures)
 
 enum-known-r-3 : tie.Need-enum_known-r-in-Refused-turn invariant-loop decreases-loop
 enum-known-r-3 c = search rules
 
 same-length-4 : tie.Need-shape_of-ws-in-Refused-turn invariant-loop decreases-loop
-same-length-4 c = (run_stopped c.loop-i.invariant (omega (arith, c.if-body-at.false)) c.loop-i-test.true (sym c.is_digit.ensures ∙ c.if-is_digit.false) _ (not_reached (Calls.turn c.args.ceiling (Ch.one c.args.ceiling) (drop c.loop-i.c.at c.args.body.now)) c.args.ceiling c.args.body.now c.loop-i.ws c.turn.new.ws.1.0 c.loop-i.st c.in-Refused-turn.is c.turn.ensures)).outside.long
+same-length-4 c = (run_stopped c.loop-i.invariant (omega (arith, c.if-body-at.false)) c.loop-i-test.true (sym c.is_digit.ensures ∙ c.if-is_digit.false) _ (not_reached (Calls.turn c.args.ceiling (Ch.one c.args.ceiling) (drop c.loop-i.c.at c.args.body.now)) c.args.ceiling c.args.body.now c.loop-i.ws c.turn.new.ws c.loop-i.st c.in-Refused-turn.is c.turn.ensures)).outside.long
 
 returns-4 : tie.Need-returns-in-Refused-turn invariant-loop decreases-loop
-returns-4 c = run_stopped c.loop-i.invariant (omega (arith, c.if-body-at.false)) c.loop-i-test.true (sym c.is_digit.ensures ∙ c.if-is_digit.false) _ (not_reached (Calls.turn c.args.ceiling (Ch.one c.args.ceiling) (drop c.loop-i.c.at c.args.body.now)) c.args.ceiling c.args.body.now c.loop-i.ws c.turn.new.ws.1.0 c.loop-i.st c.in-Refused-turn.is c.turn.ensures)
+returns-4 c = run_stopped c.loop-i.invariant (omega (arith, c.if-body-at.false)) c.loop-i-test.true (sym c.is_digit.ensures ∙ c.if-is_digit.false) _ (not_reached (Calls.turn c.args.ceiling (Ch.one c.args.ceiling) (drop c.loop-i.c.at c.args.body.now)) c.args.ceiling c.args.body.now c.loop-i.ws c.turn.new.ws c.loop-i.st c.in-Refused-turn.is c.turn.ensures)
 
 same-length-5 : tie.Need-shape_of-ws invariant-loop decreases-loop
 same-length-5 c = c.loop-i.invariant.outside.long

@@ -5,61 +5,61 @@ use borrow.Author.Rules.{rules}
 use Rattle.print_tree.proofs.put_leaf.Statement.{statement}
 use Rattle.print_tree.proofs.put_leaf.Tie as tie
 
-put-effects-of-requires : tie.Need-put-effects-of-requires
+put-effects-of-requires : tie.Need-put_effects_of-requires
 put-effects-of-requires c κs = search rules
 
-returns : tie.Need-returns
-returns c = wrote_is (leaf_at c.before.before.before.before.before.before.before.args.ws.now c.before.before.before.before.before.before.before.args.p c.before.before.before.before.if1.taken) c.before.before.put-effects-of.ensures
+returns : tie.Need-returns-then-code-eq24
+returns c = wrote_is (leaf_at c.args.ws.now c.args.p c.if-code-eq24.taken) c.put_effects_of.ensures
 
-get-wide-requires : tie.Need-get-wide-requires
+get-wide-requires : tie.Need-get_wide-count-requires
 get-wide-requires c κs = search rules
 
-put-param-names-requires : tie.Need-put-param-names-requires
+put-param-names-requires : tie.Need-put_param_names-requires
 put-param-names-requires c κs = search rules
 
-returns-2 : tie.Need-returns-2
-returns-2 c = wrote_is (leaf_params c.before.before.before.before.before.before.before.before.before.args.ws.now c.before.before.before.before.before.before.before.before.before.args.p c.before.before.before.before.before.if2.taken c.before.before.before.before.get-wide.ensures) c.before.before.put-param-names.ensures
+returns-2 : tie.Need-returns-then-code-eq25
+returns-2 c = wrote_is (leaf_params c.args.ws.now c.args.p c.if-code-eq25.taken c.get_wide-count.ensures) c.put_param_names.ensures
 
-get-wide-requires-2 : tie.Need-get-wide-requires-2
+get-wide-requires-2 : tie.Need-get_wide-depth-requires
 get-wide-requires-2 c κs = search rules
 
-get-wide-requires-3 : tie.Need-get-wide-requires-3
+get-wide-requires-3 : tie.Need-get_wide-index-requires
 get-wide-requires-3 c κs = search rules
 
-generic-param-name-requires : tie.Need-generic-param-name-requires
+generic-param-name-requires : tie.Need-generic_param_name-requires
 generic-param-name-requires c κs = search rules
 
-returns-3 : tie.Need-returns-3
-returns-3 c = wrote_is (leaf_param c.before.before.before.before.before.before.before.before.before.before.before.args.ws.now c.before.before.before.before.before.before.before.before.before.before.before.args.p c.before.before.before.before.before.before.if3.taken c.before.before.before.before.before.get-wide2.ensures c.before.before.before.before.get-wide3.ensures) c.before.before.generic_param_name.ensures
+returns-3 : tie.Need-returns-then-code-eq26
+returns-3 c = wrote_is (leaf_param c.args.ws.now c.args.p c.if-code-eq26.taken c.get_wide-depth.ensures c.get_wide-index.ensures) c.generic_param_name.ensures
 
-put-init-name-requires : tie.Need-put-init-name-requires
-put-init-name-requires c κs = (c.before.before.before.before.before.before.before.pre.0, (c.before.before.before.before.before.before.before.pre.1.0, c.before.before.before.before.before.before.before.pre.1.1 c.before.if4.taken))
+put-init-name-requires : tie.Need-put_init_name-requires
+put-init-name-requires c κs = (c.before.before.before.before.before.before.before.pre.0, (c.before.before.before.before.before.before.before.pre.1.0, c.before.before.before.before.before.before.before.pre.1.1 c.if-code-eq27.taken))
 
-returns-4 : tie.Need-returns-4
-returns-4 c = wrote_is (leaf_init c.before.before.before.before.before.before.before.before.before.before.args.ws.now c.before.before.before.before.before.before.before.before.before.before.args.p c.before.before.before.before.if4.taken) c.before.before.put-init-name.ensures
+returns-4 : tie.Need-returns-then-code-eq27
+returns-4 c = wrote_is (leaf_init c.args.ws.now c.args.p c.if-code-eq27.taken) c.put_init_name.ensures
 
-get-wide-requires-4 : tie.Need-get-wide-requires-4
+get-wide-requires-4 : tie.Need-get_wide-number-requires
 get-wide-requires-4 c κs = search rules
 
-put-suspend-resume-requires : tie.Need-put-suspend-resume-requires
+put-suspend-resume-requires : tie.Need-put_suspend_resume-requires
 put-suspend-resume-requires c κs = search rules
 
-returns-5 : tie.Need-returns-5
-returns-5 c = wrote_is (leaf_suspend c.before.before.before.before.before.before.before.before.before.before.before.args.ws.now c.before.before.before.before.before.before.before.before.before.before.before.args.p c.before.before.before.before.before.before.before.before.if1.left c.before.before.before.before.before.before.before.if2.left c.before.before.before.before.before.before.if3.left c.before.before.before.before.before.if4.left c.before.before.before.before.get-wide4.ensures) c.before.before.put-suspend-resume.ensures
+returns-5 : tie.Need-returns
+returns-5 c = wrote_is (leaf_suspend c.args.ws.now c.args.p c.if-code-eq24.left c.if-code-eq25.left c.if-code-eq26.left c.if-code-eq27.left c.get_wide-number.ensures) c.put_suspend_resume.ensures
 
-same_length : tie.Need-same-length
+same_length : tie.Need-shape_of-out-then-code-eq24
 same_length c = search rules
 
-same-length-2 : tie.Need-same-length-2
+same-length-2 : tie.Need-shape_of-out-then-code-eq25
 same-length-2 c = search rules
 
-same-length-3 : tie.Need-same-length-3
+same-length-3 : tie.Need-shape_of-out-then-code-eq26
 same-length-3 c = search rules
 
-same-length-4 : tie.Need-same-length-4
+same-length-4 : tie.Need-shape_of-out-then-code-eq27
 same-length-4 c = search rules
 
-same-length-5 : tie.Need-same-length-5
+same-length-5 : tie.Need-shape_of-out
 same-length-5 c = search rules
 
 pub put_leaf_spec : {M : Type 1} → statement M

@@ -23,7 +23,7 @@ same_length : tie.Need-shape_of-ws
 same_length c = search rules
 
 returns : tie.Need-returns-in-Next
-returns c = turn_then c.args.ceiling c.args.ws.now c.args.st (begun c.args.ceiling c.args.st c.in-Next.is c.begin.ensures) c.args.text.now c.args.c.at c.named.new.ws.1.0 c.named.result (is_name c.args.ceiling c.args.text.now c.args.c.at c.requires.1 c.args.ws.now c.named.new.ws.1.0 c.in-Next.u c.requires.2 c.named.result c.named.ensures)
+returns c = turn_then c.args.ceiling c.args.ws.now c.args.st (begun c.args.ceiling c.args.st c.in-Next.is c.begin.ensures) c.args.text.now c.args.c.at c.named.new.ws c.named.result (is_name c.args.ceiling c.args.text.now c.args.c.at c.requires.1 c.args.ws.now c.named.new.ws c.in-Next.u c.requires.2 c.named.result c.named.ensures)
 
 returns-2 : tie.Need-returns-in-Refused
 returns-2 c = turn_not c.args.ceiling c.args.ws.now c.args.st c.in-Refused.r (not_begun c.args.ceiling c.args.st c.in-Refused.is c.begin.ensures) (drop c.args.c.at c.args.text.now)

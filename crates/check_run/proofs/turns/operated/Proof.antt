@@ -32,7 +32,7 @@ same-length-2 : tie.Need-shape_of-ws-in-Substitutions
 same-length-2 c = search rules
 
 returns-2 : tie.Need-returns-in-Substitutions
-returns-2 c = is_chain c.args.ceiling c.args.text.now c.args.c.at c.requires.1 c.args.ws.now c.substitutions.new.ws.1.0 c.args.st c.requires.2 c.operator.result c.operator.ensures c.in-Substitutions.is c.substitutions.result c.substitutions.ensures
+returns-2 c = is_chain c.args.ceiling c.args.text.now c.args.c.at c.requires.1 c.args.ws.now c.substitutions.new.ws c.args.st c.requires.2 c.operator.result c.operator.ensures c.in-Substitutions.is c.substitutions.result c.substitutions.ensures
 
 returns-3 : tie.Need-returns-in-Refused
 returns-3 c = is_refused c.args.ceiling c.args.text.now c.args.c.at c.requires.1 c.args.ws.now c.args.ws.now c.args.st c.requires.2 c.operator.result c.operator.ensures c.in-Refused.is

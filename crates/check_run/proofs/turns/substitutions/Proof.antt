@@ -23,28 +23,28 @@ enum-known-u : tie.Need-enum_known-u invariant-loop decreases-loop
 enum-known-u c = search rules
 
 loop-less : tie.Need-loop-u-smaller invariant-loop decreases-loop
-loop-less c = let g = went_on c.args.ceiling c.args.text.now c.loop-u.c.at c.loop-u.ws c.item.new.ws.1.0 c.loop-u.left c.in-More.is c.item.ensures in omega (arith, g.onward, g.inside)
+loop-less c = let g = went_on c.args.ceiling c.args.text.now c.loop-u.c.at c.loop-u.ws c.item.new.ws c.loop-u.left c.in-More.is c.item.ensures in omega (arith, g.onward, g.inside)
 
 loop-again : tie.Need-loop-u-preserved invariant-loop decreases-loop
-loop-again c = chain_more c.loop-u.invariant (went_on c.args.ceiling c.args.text.now c.loop-u.c.at c.loop-u.ws c.item.new.ws.1.0 c.loop-u.left c.in-More.is c.item.ensures)
+loop-again c = chain_more c.loop-u.invariant (went_on c.args.ceiling c.args.text.now c.loop-u.c.at c.loop-u.ws c.item.new.ws c.loop-u.left c.in-More.is c.item.ensures)
 
 enum-known-u-2 : tie.Need-enum_known-u-in-Last-1 invariant-loop decreases-loop
 enum-known-u-2 c = search rules
 
 same_length : tie.Need-shape_of-ws-in-Last invariant-loop decreases-loop
-same_length c = (chain_last c.loop-u.invariant (was_last c.args.ceiling c.args.text.now c.loop-u.c.at c.loop-u.ws c.item.new.ws.1.0 c.loop-u.left c.in-Last.is c.item.ensures)).outside.long
+same_length c = (chain_last c.loop-u.invariant (was_last c.args.ceiling c.args.text.now c.loop-u.c.at c.loop-u.ws c.item.new.ws c.loop-u.left c.in-Last.is c.item.ensures)).outside.long
 
 returns : tie.Need-returns-in-Last invariant-loop decreases-loop
-returns c = chain_last c.loop-u.invariant (was_last c.args.ceiling c.args.text.now c.loop-u.c.at c.loop-u.ws c.item.new.ws.1.0 c.loop-u.left c.in-Last.is c.item.ensures)
+returns c = chain_last c.loop-u.invariant (was_last c.args.ceiling c.args.text.now c.loop-u.c.at c.loop-u.ws c.item.new.ws c.loop-u.left c.in-Last.is c.item.ensures)
 
 enum-known-r : tie.Need-enum_known-r invariant-loop decreases-loop
 enum-known-r c = search rules
 
 same-length-2 : tie.Need-shape_of-ws-in-Refused invariant-loop decreases-loop
-same-length-2 c = (chain_refused c.loop-u.invariant (was_refused c.args.ceiling c.args.text.now c.loop-u.c.at c.loop-u.ws c.item.new.ws.1.0 c.loop-u.left c.in-Refused.is c.item.ensures)).outside.long
+same-length-2 c = (chain_refused c.loop-u.invariant (was_refused c.args.ceiling c.args.text.now c.loop-u.c.at c.loop-u.ws c.item.new.ws c.loop-u.left c.in-Refused.is c.item.ensures)).outside.long
 
 returns-2 : tie.Need-returns-in-Refused invariant-loop decreases-loop
-returns-2 c = chain_refused c.loop-u.invariant (was_refused c.args.ceiling c.args.text.now c.loop-u.c.at c.loop-u.ws c.item.new.ws.1.0 c.loop-u.left c.in-Refused.is c.item.ensures)
+returns-2 c = chain_refused c.loop-u.invariant (was_refused c.args.ceiling c.args.text.now c.loop-u.c.at c.loop-u.ws c.item.new.ws c.loop-u.left c.in-Refused.is c.item.ensures)
 
 pub substitutions_spec : {M : Type 1} → statement M
 substitutions_spec =

@@ -21,7 +21,7 @@ same_length : tie.Need-shape_of-ws
 same_length c = search rules
 
 returns : tie.Need-returns-in-Next
-returns c = turn_then c.args.ceiling c.args.ws.now c.args.st (begun c.args.ceiling c.args.st c.in-Next.is c.begin.ensures) c.args.text.now c.args.c.at c.operated.new.ws.1.0 c.operated.result c.operated.ensures
+returns c = turn_then c.args.ceiling c.args.ws.now c.args.st (begun c.args.ceiling c.args.st c.in-Next.is c.begin.ensures) c.args.text.now c.args.c.at c.operated.new.ws c.operated.result c.operated.ensures
 
 returns-2 : tie.Need-returns-in-Refused
 returns-2 c = turn_not c.args.ceiling c.args.ws.now c.args.st c.in-Refused.r (not_begun c.args.ceiling c.args.st c.in-Refused.is c.begin.ensures) (drop c.args.c.at c.args.text.now)

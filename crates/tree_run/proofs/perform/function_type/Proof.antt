@@ -7,36 +7,36 @@ use Rattle.tree_run.proofs.perform.function_type.Statement.{statement}
 use Rattle.tree_run.proofs.perform.function_type.Tie as tie
 
 -- src/lib.rt:17:11
-function-type-requires : tie.Need-function-type-requires
-function-type-requires c κs = ready_less (spare 0 0 1 0) (omega arith) (omega arith) (omega arith) (omega arith) c.before.before.requires
+function-type-requires : tie.Need-function_type-requires
+function-type-requires c κs = ready_less (spare 0 0 1 0) (omega arith) (omega arith) (omega arith) (omega arith) c.requires
 
 -- src/lib.rt:18:22
-enum-known-p : tie.Need-enum-known-p
+enum-known-p : tie.Need-enum_known-p
 enum-known-p c = search rules
 
 -- src/lib.rt:18:42
 push-requires : tie.Need-push-requires
-push-requires c κs = function_room (built_place _ _ c.before.before.p.given.1 c.before.before.before.before.before.before.function_type.ensures) c.before.before.before.before.before.before.before.before.before.requires
+push-requires c κs = function_room (built_place _ _ c.in-Place.is c.function_type.ensures) c.requires
 
 -- src/lib.rt:19:24
-enum-known-r : tie.Need-enum-known-r
+enum-known-r : tie.Need-enum_known-r
 enum-known-r c = search rules
 
 -- src/lib.rt:13:1
-same_length : tie.Need-same-length
+same_length : tie.Need-shape_of-ws-in-Place
 same_length c = search rules
 
 -- src/lib.rt:13:1
-returns : tie.Need-returns
-returns c = function_pushed (built_place _ _ c.before.before.before.before.before.p.given.1 c.before.before.before.before.before.before.before.before.before.function_type.ensures) c.before.before.push.ensures
+returns : tie.Need-returns-in-Place
+returns c = function_pushed (built_place _ _ c.in-Place.is c.function_type.ensures) c.push.ensures
 
 -- src/lib.rt:13:1
-same-length-2 : tie.Need-same-length-2
+same-length-2 : tie.Need-shape_of-ws-in-Refused
 same-length-2 c = search rules
 
 -- src/lib.rt:13:1
-returns-2 : tie.Need-returns-2
-returns-2 c = function_refused (built_refused _ _ c.before.r.given.1 c.before.before.before.before.before.function_type.ensures)
+returns-2 : tie.Need-returns-in-Refused
+returns-2 c = function_refused (built_refused _ _ c.in-Refused.is c.function_type.ensures)
 
 pub function_type_spec : {M : Type 1} → statement M
 function_type_spec =

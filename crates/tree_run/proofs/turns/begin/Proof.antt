@@ -9,7 +9,7 @@ step-requires : tie.Need-step-requires
 step-requires c κs = search rules
 
 -- src/lib.rt:163:21
-enum-known-stepped : tie.Need-enum-known-stepped
+enum-known-stepped : tie.Need-enum_known-stepped
 enum-known-stepped c = search rules
 
 -- src/lib.rt:163:39
@@ -17,28 +17,28 @@ charge-requires : tie.Need-charge-requires
 charge-requires c κs = search rules
 
 -- src/lib.rt:164:25
-enum-known-charged : tie.Need-enum-known-charged
+enum-known-charged : tie.Need-enum_known-charged
 enum-known-charged c = search rules
 
 -- src/lib.rt:170:28
-enum-known-r : tie.Need-enum-known-r
+enum-known-r : tie.Need-enum_known-r
 enum-known-r c = search rules
 
 -- src/lib.rt:172:24
-enum-known-r-2 : tie.Need-enum-known-r-2
+enum-known-r-2 : tie.Need-enum_known-r-in-Refused-step
 enum-known-r-2 c = search rules
 
 -- src/lib.rt:158:1
-returns : tie.Need-returns
-returns c = begin_charged _ _ _ (spent_left _ c.before.before.before.before.before.stepped.given.1 c.before.before.before.before.before.before.before.step.ensures) _ (spent_left _ c.before.charged.given.1 c.before.before.before.charge.ensures)
+returns : tie.Need-returns-in-Left-charge
+returns c = begin_charged _ _ _ (spent_left _ c.in-Left.is c.step.ensures) _ (spent_left _ c.in-Left-charge.is c.charge.ensures)
 
 -- src/lib.rt:158:1
-returns-2 : tie.Need-returns-2
-returns-2 c = begin_uncharged _ _ _ (spent_left _ c.before.before.before.before.before.stepped.given.1 c.before.before.before.before.before.before.before.step.ensures) _ (spent_refused _ c.before.r.given.1 c.before.before.before.charge.ensures)
+returns-2 : tie.Need-returns-in-Refused-charge
+returns-2 c = begin_uncharged _ _ _ (spent_left _ c.in-Left.is c.step.ensures) _ (spent_refused _ c.in-Refused-charge.is c.charge.ensures)
 
 -- src/lib.rt:158:1
-returns-3 : tie.Need-returns-3
-returns-3 c = begin_stopped _ _ _ (spent_refused _ c.before.r2.given.1 c.before.before.before.step.ensures)
+returns-3 : tie.Need-returns-in-Refused
+returns-3 c = begin_stopped _ _ _ (spent_refused _ c.in-Refused.is c.step.ensures)
 
 pub begin_spec : {M : Type 1} → statement M
 begin_spec =

@@ -11,52 +11,52 @@ substitution-requires : tie.Need-substitution-requires
 substitution-requires c κs = search rules
 
 -- src/lib.rt:82:34
-enum-known-times : tie.Need-enum-known-times
+enum-known-times : tie.Need-enum_known-times
 enum-known-times c = search rules
 
 -- src/lib.rt:83:19
 recall-requires : tie.Need-recall-requires
-recall-requires c κs = reads_ready c.before.before.before.before.before.before.before.requires
+recall-requires c κs = reads_ready c.requires
 
 -- src/lib.rt:84:28
-enum-known-u : tie.Need-enum-known-u
+enum-known-u : tie.Need-enum_known-u
 enum-known-u c = search rules
 
 -- src/lib.rt:86:25
-same_length : tie.Need-same-length
+same_length : tie.Need-shape_of-ws-then-last
 same_length c = search rules
 
 -- src/lib.rt:86:25
-returns : tie.Need-returns
-returns c = item_last c.before.before.before.before.before.before.before.before.before.before.before.before.before.before.args.n c.before.before.before.before.before.before.before.before.before.before.before.before.before.before.args.text.now c.before.before.before.before.before.before.before.before.before.before.before.before.before.before.args.c.at c.before.before.before.before.before.before.before.before.before.times.given.0.0 c.before.before.before.before.before.before.before.before.before.times.given.0.1.0 c.before.before.before.before.before.before.before.before.before.times.given.0.1.1.0 c.if1.true (subst (Copied (chain (drop c.before.before.before.before.before.before.before.before.before.before.before.before.before.before.args.c.at c.before.before.before.before.before.before.before.before.before.before.before.before.before.before.args.text.now)) c.before.before.before.before.before.before.before.before.before.before.before.before.before.before.args.text.now c.before.before.before.before.before.before.before.before.before.before.before.before.before.before.args.c.at) c.before.before.before.before.before.before.before.before.before.times.given.1 c.before.before.before.before.before.before.before.before.before.before.before.substitution.ensures) (was_recalled _ c.before.before.u.given.1 c.before.before.before.before.before.before.recall.ensures)
+returns : tie.Need-returns-then-last
+returns c = item_last c.args.n c.args.text.now c.args.c.at c.in-Copies.times c.in-Copies.index c.in-Copies.last c.if-last.true (subst (Copied (chain (drop c.args.c.at c.args.text.now)) c.args.text.now c.args.c.at) c.in-Copies.is c.substitution.ensures) (was_recalled _ c.in-Done.is c.recall.ensures)
 
 -- src/lib.rt:88:21
-same-length-2 : tie.Need-same-length-2
+same-length-2 : tie.Need-shape_of-ws-in-Done
 same-length-2 c = search rules
 
 -- src/lib.rt:88:21
-returns-2 : tie.Need-returns-2
-returns-2 c = item_more c.before.before.before.before.before.before.before.before.before.before.before.before.before.before.args.n c.before.before.before.before.before.before.before.before.before.before.before.before.before.before.args.text.now c.before.before.before.before.before.before.before.before.before.before.before.before.before.before.args.c.at c.before.before.before.before.before.before.before.before.before.times.given.0.0 c.before.before.before.before.before.before.before.before.before.times.given.0.1.0 c.before.before.before.before.before.before.before.before.before.times.given.0.1.1.0 c.if1.false (subst (Copied (chain (drop c.before.before.before.before.before.before.before.before.before.before.before.before.before.before.args.c.at c.before.before.before.before.before.before.before.before.before.before.before.before.before.before.args.text.now)) c.before.before.before.before.before.before.before.before.before.before.before.before.before.before.args.text.now c.before.before.before.before.before.before.before.before.before.before.before.before.before.before.args.c.at) c.before.before.before.before.before.before.before.before.before.times.given.1 c.before.before.before.before.before.before.before.before.before.before.before.substitution.ensures) (was_recalled _ c.before.before.u.given.1 c.before.before.before.before.before.before.recall.ensures)
+returns-2 : tie.Need-returns-in-Done
+returns-2 c = item_more c.args.n c.args.text.now c.args.c.at c.in-Copies.times c.in-Copies.index c.in-Copies.last c.if-last.false (subst (Copied (chain (drop c.args.c.at c.args.text.now)) c.args.text.now c.args.c.at) c.in-Copies.is c.substitution.ensures) (was_recalled _ c.in-Done.is c.recall.ensures)
 
 -- src/lib.rt:90:31
-enum-known-r : tie.Need-enum-known-r
+enum-known-r : tie.Need-enum_known-r
 enum-known-r c = search rules
 
 -- src/lib.rt:91:21
-same-length-3 : tie.Need-same-length-3
+same-length-3 : tie.Need-shape_of-ws-in-Refused
 same-length-3 c = search rules
 
 -- src/lib.rt:91:21
-returns-3 : tie.Need-returns-3
-returns-3 c = item_fails c.before.before.before.before.before.before.before.before.before.before.before.before.before.args.n c.before.before.before.before.before.before.before.before.before.before.before.before.before.args.text.now c.before.before.before.before.before.before.before.before.before.before.before.before.before.args.c.at c.before.before.before.before.before.before.before.before.times.given.0.0 c.before.before.before.before.before.before.before.before.times.given.0.1.0 c.before.before.before.before.before.before.before.before.times.given.0.1.1.0 c.before.before.before.before.before.before.before.before.times.given.0.1.1.1.0 (subst (Copied (chain (drop c.before.before.before.before.before.before.before.before.before.before.before.before.before.args.c.at c.before.before.before.before.before.before.before.before.before.before.before.before.before.args.text.now)) c.before.before.before.before.before.before.before.before.before.before.before.before.before.args.text.now c.before.before.before.before.before.before.before.before.before.before.before.before.before.args.c.at) c.before.before.before.before.before.before.before.before.times.given.1 c.before.before.before.before.before.before.before.before.before.before.substitution.ensures) (was_recalled _ c.before.r.given.1 c.before.before.before.before.before.recall.ensures)
+returns-3 : tie.Need-returns-in-Refused
+returns-3 c = item_fails c.args.n c.args.text.now c.args.c.at c.in-Copies.times c.in-Copies.index c.in-Copies.last c.in-Copies.next (subst (Copied (chain (drop c.args.c.at c.args.text.now)) c.args.text.now c.args.c.at) c.in-Copies.is c.substitution.ensures) (was_recalled _ c.in-Refused.is c.recall.ensures)
 
 -- src/lib.rt:95:34
-enum-known-f : tie.Need-enum-known-f
+enum-known-f : tie.Need-enum_known-f
 enum-known-f c = search rules
 
 -- src/lib.rt:77:1
-returns-4 : tie.Need-returns-4
-returns-4 c = item_broken c.before.before.before.before.before.before.args.n c.before.before.before.before.before.before.args.text.now c.before.before.before.before.before.before.args.c.at (subst (Copied (chain (drop c.before.before.before.before.before.before.args.c.at c.before.before.before.before.before.before.args.text.now)) c.before.before.before.before.before.before.args.text.now c.before.before.before.before.before.before.args.c.at) c.before.f.given.1 c.before.before.before.substitution.ensures)
+returns-4 : tie.Need-returns
+returns-4 c = item_broken c.args.n c.args.text.now c.args.c.at (subst (Copied (chain (drop c.args.c.at c.args.text.now)) c.args.text.now c.args.c.at) c.in-Broken.is c.substitution.ensures)
 
 pub item_spec : {M : Type 1} → statement M
 item_spec =

@@ -9,28 +9,28 @@ perform-requires : tie.Need-perform-requires
 perform-requires c κs = search rules
 
 -- src/lib.rt:138:20
-enum-known-u : tie.Need-enum-known-u
+enum-known-u : tie.Need-enum_known-u
 enum-known-u c = search rules
 
 -- src/lib.rt:139:23
-enum-known-r : tie.Need-enum-known-r
+enum-known-r : tie.Need-enum_known-r
 enum-known-r c = search rules
 
 -- src/lib.rt:133:1
-same_length : tie.Need-same-length
+same_length : tie.Need-shape_of-ws-in-Done
 same_length c = search rules
 
 -- src/lib.rt:133:1
-returns : tie.Need-returns
-returns c = (operated_as _ c.before.u.given.1 c.before.before.before.before.before.perform.ensures, refl)
+returns : tie.Need-returns-in-Done
+returns c = (operated_as _ c.in-Done.is c.perform.ensures, refl)
 
 -- src/lib.rt:133:1
-same-length-2 : tie.Need-same-length-2
+same-length-2 : tie.Need-shape_of-ws-in-Refused
 same-length-2 c = search rules
 
 -- src/lib.rt:133:1
-returns-2 : tie.Need-returns-2
-returns-2 c = operated_as _ c.before.r.given.1 c.before.before.before.before.before.perform.ensures
+returns-2 : tie.Need-returns-in-Refused
+returns-2 c = operated_as _ c.in-Refused.is c.perform.ensures
 
 pub performed_spec : {M : Type 1} → statement M
 performed_spec =

@@ -11,35 +11,35 @@ use Rattle.tree_run.proofs.turns.plain_turn.Tie as tie
 begin-requires : tie.Need-begin-requires
 begin-requires c κs = search rules
 
-enum-known-u : tie.Need-enum-known-u
+enum-known-u : tie.Need-enum_known-u
 enum-known-u c = search rules
 
 literal-requires : tie.Need-literal-requires
 literal-requires c κs = search rules
 
-enum-known-from : tie.Need-enum-known-from
+enum-known-from : tie.Need-enum_known-from
 enum-known-from c = search rules
 
-name-requires : tie.Need-name-requires
-name-requires c κs = (name_room (begun_next _ c.before.before.before.before.before.before.u.given.1 c.before.before.before.before.before.before.before.before.begin.ensures) c.before.before.before.before.before.before.before.before.before.before.before.requires.0, omega (arith, c.before.before.before.before.before.before.before.before.before.before.before.requires.1, c.before.before.before.before.before.before.before.before.before.before.before.requires.4))
+name-requires : tie.Need-name-v-requires
+name-requires c κs = (name_room (begun_next _ c.in-Next.is c.begin.ensures) c.requires.0, omega (arith, c.requires.1, c.requires.4))
 
-enum-known-f : tie.Need-enum-known-f
+enum-known-f : tie.Need-enum_known-f
 enum-known-f c = search rules
 
-enum-known-r : tie.Need-enum-known-r
+enum-known-r : tie.Need-enum_known-r
 enum-known-r c = search rules
 
-same_length : tie.Need-same-length
+same_length : tie.Need-shape_of-ws
 same_length c = search rules
 
-returns : tie.Need-returns
-returns c = plain_came c.before.before.before.before.before.before.before.before.before.before.before.before.before.before.args.n c.before.before.before.before.before.before.before.before.before.before.before.before.before.before.args.text.now c.before.before.before.before.before.before.before.before.before.before.before.before.before.before.args.c.at c.before.before.before.before.before.before.before.before.before.before.before.before.before.before.requires.1 c.before.before.before.before.before.before.before.before.before.before.before.before.before.before.requires.2 c.before.before.before.before.before.before.before.before.before.before.before.before.before.before.requires.3 (record { at = c.before.before.before.before.before.from.given.0.1.0 }) _ refl c.before.before.before.before.before.before.before.before.before.before.before.before.before.before.requires.4 (begun_next _ c.before.before.before.before.before.before.before.before.before.u.given.1 c.before.before.before.before.before.before.before.before.before.before.before.begin.ensures) (extent_read c.before.before.before.before.before.before.before.before.before.before.before.before.before.before.args.text.now c.before.before.before.before.before.before.before.before.before.before.before.before.before.before.args.c.at c.before.before.before.before.before.from.given.1 c.before.before.before.before.before.before.before.literal.ensures) c.before.before.name.ensures
+returns : tie.Need-returns-in-Read
+returns c = plain_came c.args.n c.args.text.now c.args.c.at c.requires.1 c.requires.2 c.requires.3 (record { at = c.in-Read.to }) _ refl c.requires.4 (begun_next _ c.in-Next.is c.begin.ensures) (extent_read c.args.text.now c.args.c.at c.in-Read.is c.literal.ensures) c.name-v.ensures
 
-returns-2 : tie.Need-returns-2
-returns-2 c = plain_unread c.before.before.before.before.before.before.before.before.before.before.args.n c.before.before.before.before.before.before.before.before.before.before.args.text.now c.before.before.before.before.before.before.before.before.before.before.args.c.at c.before.before.before.before.before.before.before.before.before.before.requires.1 c.before.before.before.before.before.before.before.before.before.before.requires.2 c.before.before.before.before.before.before.before.before.before.before.requires.3 _ (begun_next _ c.before.before.before.before.before.u.given.1 c.before.before.before.before.before.before.before.begin.ensures) (extent_refused c.before.before.before.before.before.before.before.before.before.before.args.text.now c.before.before.before.before.before.before.before.before.before.before.args.c.at c.before.f.given.1 c.before.before.before.literal.ensures)
+returns-2 : tie.Need-returns-in-Refused-literal
+returns-2 c = plain_unread c.args.n c.args.text.now c.args.c.at c.requires.1 c.requires.2 c.requires.3 _ (begun_next _ c.in-Next.is c.begin.ensures) (extent_refused c.args.text.now c.args.c.at c.in-Refused-literal.is c.literal.ensures)
 
-returns-3 : tie.Need-returns-3
-returns-3 c = turn_not c.before.before.before.before.before.before.args.n c.before.before.before.before.before.before.args.text.now c.before.before.before.before.before.before.args.c.at c.before.before.before.before.before.before.args.ws.now c.before.before.before.before.before.before.args.st _ (begun_not _ c.before.r.given.1 c.before.before.before.begin.ensures)
+returns-3 : tie.Need-returns-in-Refused
+returns-3 c = turn_not c.args.n c.args.text.now c.args.c.at c.args.ws.now c.args.st _ (begun_not _ c.in-Refused.is c.begin.ensures)
 
 pub plain_turn_spec : {M : Type 1} → statement M
 plain_turn_spec =
