@@ -11,7 +11,7 @@ use Rattle.call_values.proofs.numbers.Reads as numbers-reads
 use Rattle.swift_shape.proofs.shape.Reads as shape-reads
 
 -- src/lib.rt:51:9
-shape-requires : tie.Need-shape-requires
+shape-requires : tie.Need-shape-a-requires
 shape-requires c κs = search rules
 
 -- src/lib.rt:52:15
@@ -19,12 +19,15 @@ numbers-requires : tie.Need-numbers-requires
 numbers-requires c κs = search rules
 
 -- src/lib.rt:42:1
-same_length : tie.Need-same-length
+same_length : tie.Need-shape_of-workspace
 same_length c = search rules
 
 -- src/lib.rt:42:1
 returns : tie.Need-returns
-returns c = (c.numbers.ensures ∙ ap six c.before.before.before.shape.ensures.0, scratch_told (ap (λ (v : Values). v.number) c.before.before.before.shape.ensures.0) c.before.before.before.shape.ensures.1)
+returns c = (c.numbers.ensures ∙ ap six c.shape-a.ensures.0, scratch_told (ap (λ (v : Values). v.number) c.shape-a.ensures.0) c.shape-a.ensures.1)
 
 pub cepruvels_shape_spec : {M : Type 1} → statement M
-cepruvels_shape_spec = tie.close (tie.spec shape-requires numbers-requires same_length returns)
+cepruvels_shape_spec = tie.close (tie.spec shape-requires
+    numbers-requires
+    same_length
+    returns)

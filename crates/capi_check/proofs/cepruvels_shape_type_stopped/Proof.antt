@@ -10,7 +10,7 @@ use Rattle.call_values.proofs.numbers.Reads as numbers-reads
 use Rattle.swift_shape.proofs.shape_type_stopped.Reads as shape-type-stopped-reads
 
 -- src/lib.rt:129:9
-shape-type-stopped-requires : tie.Need-shape-type-stopped-requires
+shape-type-stopped-requires : tie.Need-shape_type_stopped-a-requires
 shape-type-stopped-requires c κs = search rules
 
 -- src/lib.rt:130:15
@@ -18,18 +18,22 @@ numbers-requires : tie.Need-numbers-requires
 numbers-requires c κs = search rules
 
 -- src/lib.rt:118:1
-same_length : tie.Need-same-length
+same_length : tie.Need-shape_of-workspace
 same_length c = search rules
 
 -- src/lib.rt:118:1
-same-length-2 : tie.Need-same-length-2
+same-length-2 : tie.Need-shape_of-out
 same-length-2 c = search rules
 
 -- src/lib.rt:118:1
 returns : tie.Need-returns
-returns c = (told c.before.before.before.before.before.shape_type_stopped.ensures.0 c.numbers.ensures, scratch_told (ap (λ (v : Values). v.number) c.before.before.before.before.before.shape_type_stopped.ensures.0.values) c.before.before.before.before.before.shape_type_stopped.ensures.1)
+returns c = (told c.shape_type_stopped-a.ensures.0 c.numbers.ensures, scratch_told (ap (λ (v : Values). v.number) c.shape_type_stopped-a.ensures.0.values) c.shape_type_stopped-a.ensures.1)
 
 pub cepruvels_shape_type_stopped_spec : {M : Type 1} → statement M
 cepruvels_shape_type_stopped_spec =
     tie.close
-    (tie.spec shape-type-stopped-requires numbers-requires same_length same-length-2 returns)
+    (tie.spec shape-type-stopped-requires
+    numbers-requires
+    same_length
+    same-length-2
+    returns)

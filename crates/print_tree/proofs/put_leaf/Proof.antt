@@ -9,7 +9,7 @@ put-effects-of-requires : tie.Need-put_effects_of-requires
 put-effects-of-requires c κs = search rules
 
 returns : tie.Need-returns-then-code-eq24
-returns c = wrote_is (leaf_at c.args.ws.now c.args.p c.if-code-eq24.taken) c.put_effects_of.ensures
+returns c = wrote_is (leaf_at c.args.ws.now c.args.p c.if-code-eq24.true) c.put_effects_of.ensures
 
 get-wide-requires : tie.Need-get_wide-count-requires
 get-wide-requires c κs = search rules
@@ -18,7 +18,7 @@ put-param-names-requires : tie.Need-put_param_names-requires
 put-param-names-requires c κs = search rules
 
 returns-2 : tie.Need-returns-then-code-eq25
-returns-2 c = wrote_is (leaf_params c.args.ws.now c.args.p c.if-code-eq25.taken c.get_wide-count.ensures) c.put_param_names.ensures
+returns-2 c = wrote_is (leaf_params c.args.ws.now c.args.p c.if-code-eq25.true c.get_wide-count.ensures) c.put_param_names.ensures
 
 get-wide-requires-2 : tie.Need-get_wide-depth-requires
 get-wide-requires-2 c κs = search rules
@@ -30,13 +30,13 @@ generic-param-name-requires : tie.Need-generic_param_name-requires
 generic-param-name-requires c κs = search rules
 
 returns-3 : tie.Need-returns-then-code-eq26
-returns-3 c = wrote_is (leaf_param c.args.ws.now c.args.p c.if-code-eq26.taken c.get_wide-depth.ensures c.get_wide-index.ensures) c.generic_param_name.ensures
+returns-3 c = wrote_is (leaf_param c.args.ws.now c.args.p c.if-code-eq26.true c.get_wide-depth.ensures c.get_wide-index.ensures) c.generic_param_name.ensures
 
 put-init-name-requires : tie.Need-put_init_name-requires
-put-init-name-requires c κs = (c.before.before.before.before.before.before.before.pre.0, (c.before.before.before.before.before.before.before.pre.1.0, c.before.before.before.before.before.before.before.pre.1.1 c.if-code-eq27.taken))
+put-init-name-requires c κs = (c.requires.0, (c.requires.1.0, c.requires.1.1 c.if-code-eq27.true))
 
 returns-4 : tie.Need-returns-then-code-eq27
-returns-4 c = wrote_is (leaf_init c.args.ws.now c.args.p c.if-code-eq27.taken) c.put_init_name.ensures
+returns-4 c = wrote_is (leaf_init c.args.ws.now c.args.p c.if-code-eq27.true) c.put_init_name.ensures
 
 get-wide-requires-4 : tie.Need-get_wide-number-requires
 get-wide-requires-4 c κs = search rules
@@ -45,7 +45,7 @@ put-suspend-resume-requires : tie.Need-put_suspend_resume-requires
 put-suspend-resume-requires c κs = search rules
 
 returns-5 : tie.Need-returns
-returns-5 c = wrote_is (leaf_suspend c.args.ws.now c.args.p c.if-code-eq24.left c.if-code-eq25.left c.if-code-eq26.left c.if-code-eq27.left c.get_wide-number.ensures) c.put_suspend_resume.ensures
+returns-5 c = wrote_is (leaf_suspend c.args.ws.now c.args.p c.if-code-eq24.false c.if-code-eq25.false c.if-code-eq26.false c.if-code-eq27.false c.get_wide-number.ensures) c.put_suspend_resume.ensures
 
 same_length : tie.Need-shape_of-out-then-code-eq24
 same_length c = search rules

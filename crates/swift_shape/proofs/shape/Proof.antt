@@ -11,13 +11,15 @@ check-requires : tie.Need-check-requires
 check-requires c κs = search rules
 
 -- src/lib.rt:28:1
-same_length : tie.Need-same-length
+same_length : tie.Need-shape_of-workspace
 same_length c = search rules
 
 -- src/lib.rt:28:1
 returns : tie.Need-returns
 unfolding Check.shape
-returns c = c.before.before.check.ensures
+returns c = c.check.ensures
 
 pub shape_spec : {M : Type 1} → statement M
-shape_spec = tie.close (tie.spec check-requires same_length returns)
+shape_spec = tie.close (tie.spec check-requires
+    same_length
+    returns)

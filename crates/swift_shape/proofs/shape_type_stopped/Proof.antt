@@ -7,22 +7,25 @@ use Rattle.swift_shape.proofs.shape_type_stopped.Lts as lts
 use Rattle.swift_shape.proofs.check_stopped.Reads as check-stopped-reads
 
 -- src/lib.rt:90:5
-check-stopped-requires : tie.Need-check-stopped-requires
+check-stopped-requires : tie.Need-check_stopped-requires
 check-stopped-requires c κs = search rules
 
 -- src/lib.rt:81:1
-same_length : tie.Need-same-length
+same_length : tie.Need-shape_of-workspace
 same_length c = search rules
 
 -- src/lib.rt:81:1
-same-length-2 : tie.Need-same-length-2
+same-length-2 : tie.Need-shape_of-out
 same-length-2 c = search rules
 
 -- src/lib.rt:81:1
 returns : tie.Need-returns
 unfolding Check.shape_type_stopped
-returns c = c.before.before.before.before.check_stopped.ensures
+returns c = c.check_stopped.ensures
 
 pub shape_type_stopped_spec : {M : Type 1} → statement M
 shape_type_stopped_spec =
-    tie.close (tie.spec check-stopped-requires same_length same-length-2 returns)
+    tie.close (tie.spec check-stopped-requires
+    same_length
+    same-length-2
+    returns)

@@ -12,60 +12,60 @@ use Rattle.check_run.proofs.run.Reads as run_reads
 use Rattle.check_ends.proofs.write_stack.Reads as write-stack-reads
 
 -- src/lib.rt:56:25
-sub-run : tie.Need-overflow-sub-run
+sub-run : tie.Need-slice_bounds-run-count
 sub-run c = search rules
 
 -- src/lib.rt:56:25
-part-run-start : tie.Need-slice-bounds-run-start
+part-run-start : tie.Need-slice_bounds-run-start
 part-run-start c = search rules
 
 -- src/lib.rt:56:25
-part-run-end : tie.Need-slice-bounds-run-end
+part-run-end : tie.Need-slice_bounds-run-end
 part-run-end c = search rules
 
 -- src/lib.rt:56:11
 run-requires : tie.Need-run-requires
-run-requires c κs = (omega (arith, c.before.before.before.before.before.requires.4), c.before.before.before.before.before.requires.3, body_short c.before.before.before.before.before.args.text.now c.before.before.before.before.before.args.start c.before.before.before.before.before.args.end c.before.before.before.before.before.requires.2, c.before.before.before.before.before.requires.5)
+run-requires c κs = (omega (arith, c.requires.4), c.requires.3, body_short c.args.text.now c.args.start c.args.end c.requires.2, c.requires.5)
 
 -- src/lib.rt:57:22
-enum-known-st : tie.Need-enum-known-st
+enum-known-st : tie.Need-enum_known-st
 enum-known-st c = search rules
 
 -- src/lib.rt:58:17
-write-stack-requires : tie.Need-write-stack-requires
-write-stack-requires c κs = sound_inside (check_ran c.before.before.before.before.before.before.before.run.result c.before.before.before.st.given.1 c.before.before.before.before.before.before.before.run.ensures).sound
+write-stack-requires : tie.Need-write_stack-written-requires
+write-stack-requires c κs = sound_inside (check_ran c.run.result c.in-Ran.is c.run.ensures).sound
 
 -- src/lib.rt:60:13
 stacked-requires : tie.Need-stacked-requires
 stacked-requires c κs = search rules
 
 -- src/lib.rt:62:26
-enum-known-r : tie.Need-enum-known-r
+enum-known-r : tie.Need-enum_known-r
 enum-known-r c = search rules
 
 -- src/lib.rt:62:55
-add-t25 : tie.Need-overflow-add-t25
-add-t25 c = omega (arith, (check_was_stopped c.before.before.before.before.before.run.result c.before.r.given.1 c.before.before.before.before.before.run.ensures).inside, body_short c.before.before.before.before.before.before.before.before.before.before.before.args.text.now c.before.before.before.before.before.before.before.before.before.before.before.args.start c.before.before.before.before.before.before.before.before.before.before.before.args.end c.before.before.before.before.before.before.before.before.before.before.before.requires.2, c.before.before.before.before.before.before.before.before.before.before.before.requires)
+add-t25 : tie.Need-overflow_add-result
+add-t25 c = omega (arith, (check_was_stopped c.run.result c.in-Stopped.is c.run.ensures).inside, body_short c.args.text.now c.args.start c.args.end c.requires.2, c.requires)
 
 -- src/lib.rt:44:1
-same_length : tie.Need-same-length
+same_length : tie.Need-shape_of-workspace-in-Ran
 same_length c = search rules
 
 -- src/lib.rt:44:1
-same-length-2 : tie.Need-same-length-2
+same-length-2 : tie.Need-shape_of-out
 same-length-2 c = search rules
 
 -- src/lib.rt:44:1
-returns : tie.Need-returns
-returns c = (check_k_ran c.before.before.before.before.before.before.before.before.before.before.before.before.before.before.before.before.before.before.args.text.now c.before.before.before.before.before.before.before.before.before.before.before.before.before.before.before.before.before.before.args.start c.before.before.before.before.before.before.before.before.before.before.before.before.before.before.before.before.before.before.args.end c.before.before.before.before.before.before.before.before.before.before.before.before.before.before.before.before.before.before.args.ceiling c.before.before.before.before.before.before.before.before.before.before.before.before.before.before.before.before.before.before.args.workspace.now _ c.before.before.before.before.before.before.before.before.before.before.before.before.before.before.before.before.before.before.args.k _ c.before.before.before.before.before.before.before.before.before.before.before.before.before.before.before.before.before.before.args.out.now _ c.before.before.before.before.write-stack.result _ (check_ran c.before.before.before.before.before.before.before.before.before.before.before.before.run.result c.before.before.before.before.before.before.before.before.st.given.1 c.before.before.before.before.before.before.before.before.before.before.before.before.run.ensures) c.before.before.before.before.write-stack.ensures c.stacked.ensures, (check_ran c.before.before.before.before.before.before.before.before.before.before.before.before.run.result c.before.before.before.before.before.before.before.before.st.given.1 c.before.before.before.before.before.before.before.before.before.before.before.before.run.ensures).outside)
+returns : tie.Need-returns-in-Ran
+returns c = (check_k_ran c.args.text.now c.args.start c.args.end c.args.ceiling c.args.workspace.now _ c.args.k _ c.args.out.now _ c.write_stack-written.result _ (check_ran c.run.result c.in-Ran.is c.run.ensures) c.write_stack-written.ensures c.stacked.ensures, (check_ran c.run.result c.in-Ran.is c.run.ensures).outside)
 
 -- src/lib.rt:44:1
-same-length-3 : tie.Need-same-length-3
+same-length-3 : tie.Need-shape_of-workspace-in-Stopped
 same-length-3 c = search rules
 
 -- src/lib.rt:44:1
-returns-2 : tie.Need-returns-2
-returns-2 c = (check_k_stopped c.before.before.before.before.before.before.before.before.before.before.before.args.text.now c.before.before.before.before.before.before.before.before.before.before.before.args.start c.before.before.before.before.before.before.before.before.before.before.before.args.end c.before.before.before.before.before.before.before.before.before.before.before.args.ceiling c.before.before.before.before.before.before.before.before.before.before.before.args.workspace.now _ c.before.before.before.before.before.before.before.before.before.before.before.args.k c.before.before.before.before.before.before.before.before.before.before.before.args.out.now _ _ (check_was_stopped c.before.before.before.before.before.run.result c.before.r.given.1 c.before.before.before.before.before.run.ensures), (check_was_stopped c.before.before.before.before.before.run.result c.before.r.given.1 c.before.before.before.before.before.run.ensures).outside)
+returns-2 : tie.Need-returns-in-Stopped
+returns-2 c = (check_k_stopped c.args.text.now c.args.start c.args.end c.args.ceiling c.args.workspace.now _ c.args.k c.args.out.now _ _ (check_was_stopped c.run.result c.in-Stopped.is c.run.ensures), (check_was_stopped c.run.result c.in-Stopped.is c.run.ensures).outside)
 
 pub check_stopped_body_spec : {M : Type 1} → statement M
 check_stopped_body_spec =
