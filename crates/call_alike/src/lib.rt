@@ -1,6 +1,7 @@
 // Judging alike in code. Lends its slices to the reading and to the check, for a symbol and for a
 // type, whole and stopped, and returns whether they agree.
 #![tactic(auto)]
+
 ghost use Rattle.std.specs.Prelude.{length};
 ghost use Rattle.definition.specs.Check as Check;
 ghost use Rattle.definition.specs.Reading as Reading;

@@ -2,6 +2,7 @@
 // receives the answer: the number of the refusal (0 if the text is accepted), its place, steps,
 // charged total, wraps, and the length of what was written.
 #![tactic(auto)]
+
 ghost use Rattle.std.specs.Prelude.{length};
 ghost use Rattle.definition.specs.Reading as Reading;
 ghost use Rattle.call_endings.specs.Workspace.{Scratch};

@@ -11,17 +11,20 @@ read-requires : tie.Need-read-requires
 read-requires c κs = search rules
 
 -- src/lib.rt:21:1
-same_length : tie.Need-same-length
+same_length : tie.Need-shape_of-workspace
 same_length c = search rules
 
 -- src/lib.rt:21:1
-same-length-2 : tie.Need-same-length-2
+same-length-2 : tie.Need-shape_of-out
 same-length-2 c = search rules
 
 -- src/lib.rt:21:1
 returns : tie.Need-returns
 unfolding Reading.demangle_type Reading.read_type
-returns c = c.before.before.before.before.read.ensures
+returns c = c.read.ensures
 
 pub demangle_type_spec : {M : Type 1} → statement M
-demangle_type_spec = tie.close (tie.spec read-requires same_length same-length-2 returns)
+demangle_type_spec = tie.close (tie.spec read-requires
+    same_length
+    same-length-2
+    returns)

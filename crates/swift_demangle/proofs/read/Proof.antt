@@ -19,32 +19,32 @@ admit-requires : tie.Need-admit-requires
 admit-requires c κs = search rules
 
 -- src/lib.rt:18:24
-enum-known-start : tie.Need-enum-known-start
+enum-known-start : tie.Need-enum_known-start
 enum-known-start c = search rules
 
 -- src/lib.rt:18:39
-read-body-requires : tie.Need-read-body-requires
-read-body-requires c κs = ((was_body c.before.before.before.before.before.before.before.before.before.args.what 64 c.before.before.before.before.before.before.before.before.before.args.ceiling (length c.before.before.before.before.before.before.before.before.before.args.workspace.now) c.before.before.before.before.before.before.before.before.before.args.text.now c.before.before.before.before.before.admit.result c.before.before.before.start.given.1 c.before.before.before.before.before.admit.ensures).0.order, (was_body c.before.before.before.before.before.before.before.before.before.args.what 64 c.before.before.before.before.before.before.before.before.before.args.ceiling (length c.before.before.before.before.before.before.before.before.before.args.workspace.now) c.before.before.before.before.before.before.before.before.before.args.text.now c.before.before.before.before.before.admit.result c.before.before.before.start.given.1 c.before.before.before.before.before.admit.ensures).0.inside, (was_body c.before.before.before.before.before.before.before.before.before.args.what 64 c.before.before.before.before.before.before.before.before.before.args.ceiling (length c.before.before.before.before.before.before.before.before.before.args.workspace.now) c.before.before.before.before.before.before.before.before.before.args.text.now c.before.before.before.before.before.admit.result c.before.before.before.start.given.1 c.before.before.before.before.before.admit.ensures).1.short, (was_body c.before.before.before.before.before.before.before.before.before.args.what 64 c.before.before.before.before.before.before.before.before.before.args.ceiling (length c.before.before.before.before.before.before.before.before.before.args.workspace.now) c.before.before.before.before.before.before.before.before.before.args.text.now c.before.before.before.before.before.admit.result c.before.before.before.start.given.1 c.before.before.before.before.before.admit.ensures).1.small, (was_body c.before.before.before.before.before.before.before.before.before.args.what 64 c.before.before.before.before.before.before.before.before.before.args.ceiling (length c.before.before.before.before.before.before.before.before.before.args.workspace.now) c.before.before.before.before.before.before.before.before.before.args.text.now c.before.before.before.before.before.admit.result c.before.before.before.start.given.1 c.before.before.before.before.before.admit.ensures).1.long, (was_body c.before.before.before.before.before.before.before.before.before.args.what 64 c.before.before.before.before.before.before.before.before.before.args.ceiling (length c.before.before.before.before.before.before.before.before.before.args.workspace.now) c.before.before.before.before.before.before.before.before.before.args.text.now c.before.before.before.before.before.admit.result c.before.before.before.start.given.1 c.before.before.before.before.before.admit.ensures).0.encoded)
+read-body-requires : tie.Need-read_body-requires
+read-body-requires c κs = ((was_body c.args.what 64 c.args.ceiling (length c.args.workspace.now) c.args.text.now c.admit.result c.in-Body.is c.admit.ensures).0.order, (was_body c.args.what 64 c.args.ceiling (length c.args.workspace.now) c.args.text.now c.admit.result c.in-Body.is c.admit.ensures).0.inside, (was_body c.args.what 64 c.args.ceiling (length c.args.workspace.now) c.args.text.now c.admit.result c.in-Body.is c.admit.ensures).1.short, (was_body c.args.what 64 c.args.ceiling (length c.args.workspace.now) c.args.text.now c.admit.result c.in-Body.is c.admit.ensures).1.small, (was_body c.args.what 64 c.args.ceiling (length c.args.workspace.now) c.args.text.now c.admit.result c.in-Body.is c.admit.ensures).1.long, (was_body c.args.what 64 c.args.ceiling (length c.args.workspace.now) c.args.text.now c.admit.result c.in-Body.is c.admit.ensures).0.encoded)
 
 -- src/lib.rt:27:27
-enum-known-r : tie.Need-enum-known-r
+enum-known-r : tie.Need-enum_known-r
 enum-known-r c = search rules
 
 -- src/lib.rt:14:1
-same_length : tie.Need-same-length
+same_length : tie.Need-shape_of-workspace
 same_length c = search rules
 
 -- src/lib.rt:14:1
-same-length-2 : tie.Need-same-length-2
+same-length-2 : tie.Need-shape_of-out
 same-length-2 c = search rules
 
 -- src/lib.rt:14:1
-returns : tie.Need-returns
-returns c = (entered c.before.before.before.before.before.before.before.before.before.before.before.before.before.before.args.what 64 c.before.before.before.before.before.before.before.before.before.before.before.before.before.before.args.ceiling (length c.before.before.before.before.before.before.before.before.before.before.before.before.before.before.args.workspace.now) c.before.before.before.before.before.before.before.before.before.before.before.before.before.before.args.text.now (Reading.whole c.before.before.before.before.before.before.before.before.before.before.before.before.before.before.args.ceiling (kinds_of c.before.before.before.before.before.before.before.before.before.before.before.before.before.before.args.what)) (was_body c.before.before.before.before.before.before.before.before.before.before.before.before.before.before.args.what 64 c.before.before.before.before.before.before.before.before.before.before.before.before.before.before.args.ceiling (length c.before.before.before.before.before.before.before.before.before.before.before.before.before.before.args.workspace.now) c.before.before.before.before.before.before.before.before.before.before.before.before.before.before.args.text.now c.before.before.before.before.before.before.before.before.before.before.admit.result c.before.before.before.before.before.before.before.before.start.given.1 c.before.before.before.before.before.before.before.before.before.before.admit.ensures).0 c.before.before.before.before.read-body.ensures.0, scratch_run 64 c.before.before.before.before.before.before.before.before.before.before.before.before.before.before.args.ceiling _ c.before.before.before.before.before.before.before.before.before.before.before.before.before.before.args.workspace.now _ _ (ap (λ (v : Values). v.number) c.before.before.before.before.read-body.ensures.0.values) (within_late (length c.before.before.before.before.before.before.before.before.before.before.before.before.before.before.args.out.now) _ (read_ran c.before.before.before.before.before.before.before.before.before.before.before.before.before.before.args.ceiling (kinds_of c.before.before.before.before.before.before.before.before.before.before.before.before.before.before.args.what) (Symbols.symbol c.before.before.before.before.before.before.before.before.before.before.before.before.before.before.args.text.now c.before.before.before.before.before.before.before.before.start.given.0.0 c.before.before.before.before.before.before.before.before.start.given.0.1.0))) c.before.before.before.before.read-body.ensures.1)
+returns : tie.Need-returns-in-Body
+returns c = (entered c.args.what 64 c.args.ceiling (length c.args.workspace.now) c.args.text.now (Reading.whole c.args.ceiling (kinds_of c.args.what)) (was_body c.args.what 64 c.args.ceiling (length c.args.workspace.now) c.args.text.now c.admit.result c.in-Body.is c.admit.ensures).0 c.read_body.ensures.0, scratch_run 64 c.args.ceiling _ c.args.workspace.now _ _ (ap (λ (v : Values). v.number) c.read_body.ensures.0.values) (within_late (length c.args.out.now) _ (read_ran c.args.ceiling (kinds_of c.args.what) (Symbols.symbol c.args.text.now c.in-Body.start c.in-Body.end))) c.read_body.ensures.1)
 
 -- src/lib.rt:14:1
-returns-2 : tie.Need-returns-2
-returns-2 c = (kept_out c.before.before.before.before.before.before.before.args.what 64 c.before.before.before.before.before.before.before.args.ceiling (length c.before.before.before.before.before.before.before.args.workspace.now) c.before.before.before.before.before.before.before.args.text.now (Reading.whole c.before.before.before.before.before.before.before.args.ceiling (kinds_of c.before.before.before.before.before.before.before.args.what)) c.before.before.before.before.before.before.before.args.out.now (was_refused c.before.before.before.before.before.before.before.args.what 64 c.before.before.before.before.before.before.before.args.ceiling (length c.before.before.before.before.before.before.before.args.workspace.now) c.before.before.before.before.before.before.before.args.text.now c.before.before.before.admit.result c.before.r.given.1 c.before.before.before.admit.ensures), scratch_same 64 c.before.before.before.before.before.before.before.args.ceiling _ c.before.before.before.before.before.before.before.args.workspace.now)
+returns-2 : tie.Need-returns-in-Refused
+returns-2 c = (kept_out c.args.what 64 c.args.ceiling (length c.args.workspace.now) c.args.text.now (Reading.whole c.args.ceiling (kinds_of c.args.what)) c.args.out.now (was_refused c.args.what 64 c.args.ceiling (length c.args.workspace.now) c.args.text.now c.admit.result c.in-Refused.is c.admit.ensures), scratch_same 64 c.args.ceiling _ c.args.workspace.now)
 
 pub read_spec : {M : Type 1} → statement M
 read_spec =
