@@ -1,17 +1,14 @@
 -- The input buffer: what is still to be answered, and the effect of reads, writes and turns on it.
 -- Assumes nothing.
-use Rattle.std.specs.Prelude.{◌≡◌, Bool, true, false, List, [], ◌++◌, ℕ, zero, suc, ◌+◌, ◌-◌, ◌^◌, ◌≤◌, ◌<◌, ℤ, pos, negsuc, length, take, drop}
+use Rattle.std.specs.Prelude.{◌≡◌, Bool, true, false, List, [], ◌++◌, ℕ, zero, suc, ◌+◌, ◌-◌, ◌^◌, ◌≤◌, ◌<◌, Result, Ok, Err, length, take, drop}
 use Rattle.definition.specs.Text.{Text}
 use Rattle.text_parts.specs.Copied.{part}
 use Rattle.line_forms.specs.Lines.{owed}
 use Rattle.line_buffers.specs.declared.Next.{Next}
-use Rattle.line_buffers.specs.declared.Next.TheVariants as Next
 use Rattle.line_buffers.specs.declared.Turn.{Turn}
 use Rattle.line_buffers.specs.declared.State.{State}
 use Rattle.line_buffers.specs.declared.Got.{Got}
-use Rattle.line_buffers.specs.declared.Got.TheVariants as Got
 use Rattle.line_buffers.specs.declared.Rest.{Rest}
-use Rattle.line_buffers.specs.declared.Rest.TheVariants as Rest
 
 -- A LINE WITH NO NEWLINE
 -- lines of more than 4,096 bytes have the same answer
@@ -70,11 +67,11 @@ pub record Holds (l : List ℕ) (s : State) : Type 0 where
   pub asks : s.next ≡ Next.Read → (s.ended ≡ false) × (s.end ≤ s.from + 4096)
 
 -- READS AND WRITES
--- a read returns -1, or the number of bytes that it stored, 0 at the end of the input
-abbrev pub heard_of : ℤ → Got
-heard_of (pos zero) = Got.Ended
-heard_of (pos (suc n)) = Got.Bytes (suc n)
-heard_of (negsuc n) = Got.Failed
+-- a read returns an error, or the number of bytes that it stored, 0 at the end of the input
+abbrev pub heard_of : {E : Type 0} → Result ℕ E → Got
+heard_of (Ok zero) = Got.Ended
+heard_of (Ok (suc n)) = Got.Bytes (suc n)
+heard_of (Err e) = Got.Failed
 
 -- What is kept is moved to the front, and what was read is stored after it. After a failed read the
 -- program stops and answers nothing more: what is kept may be a part of a line.

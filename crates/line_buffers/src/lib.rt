@@ -12,10 +12,8 @@ ghost use Rattle.line_buffers.specs.Buffers.{Resting, Passing, Holds, heard_of, 
 
 use line_forms::LINE;
 use line_forms::ends::line_end;
-
-const STDIN: i32 = 0;
-
-const STDERR: i32 = 2;
+use std::io;
+use std::io::{Read, Write};
 
 // What is done next: input is read; the contents of the buffer are answered; or nothing, because
 // all is answered, or because a read or a write failed.
@@ -128,17 +126,15 @@ fn keep(input: &mut [u8], from: usize, to: usize)
     }
 }
 
-// A read returns a negative number where it fails, and 0 at the end of the input.
-fn heard(got: isize) -> Got
+// A read returns an error where it fails, and 0 at the end of the input.
+fn heard(got: io::Result<usize>) -> Got
     ensures { result ≡ heard_of got }
 {
-    if 0 < got {
-        return Got::Bytes(got as usize);
+    match got {
+        Ok(0) => Got::Ended,
+        Ok(n) => Got::Bytes(n),
+        Err(_) => Got::Failed,
     }
-    if got < 0 {
-        return Got::Failed;
-    }
-    Got::Ended
 }
 
 // Returns the state after a read: the bytes that were read are answered next; at the end of the
@@ -178,7 +174,7 @@ fn came(before: State, got: Got) -> State
 
 // Reads once, if input is to be read. The bytes that are not answered are moved to the front, and
 // the bytes that are read are stored after them.
-pub fn fill(input: &mut [u8], before: State) -> State
+pub fn fill<R: Read>(stdin: &mut R, input: &mut [u8], before: State) -> State
     requires { Holds input.old before × (4096 < length input.old) × (length input.old < 2 ^ 63) }
     ensures { Filled input.old input.new before result }
 {
@@ -190,7 +186,7 @@ pub fn fill(input: &mut [u8], before: State) -> State
     let end = before.end;
     let have = end - from;
     keep(input, from, end);
-    let got = libc::read(STDIN, &mut input[have..]);
+    let got = stdin.read(&mut input[have..]);
     came(before, heard(got))
 }
 
@@ -219,7 +215,7 @@ pub fn fresh() -> State
 }
 
 // Whether the program stops. A failure is reported on standard error.
-pub fn stopped(next: Next) -> bool
+pub fn stopped<W: Write>(stderr: &mut W, next: Next) -> bool
     ensures { result ≡ stops next }
 {
     match next {
@@ -227,11 +223,11 @@ pub fn stopped(next: Next) -> bool
         Next::Answer => false,
         Next::Done => true,
         Next::ReadFailed => {
-            io::write_all(STDERR, b"standard input cannot be read\n");
+            let _ = stderr.write_all(b"standard input cannot be read\n");
             true
         }
         Next::WriteFailed => {
-            io::write_all(STDERR, b"standard output cannot be written\n");
+            let _ = stderr.write_all(b"standard output cannot be written\n");
             true
         }
     }

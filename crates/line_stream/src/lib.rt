@@ -15,14 +15,20 @@ ghost use Rattle.line_buffers.specs.Buffers.{Turned, Holds, Stepped, stops};
 use crate::answers::{answer_line, answer_lines};
 use line_buffers::{Next, Rest, State, Turn, decided, fill, fresh, passed, rest_of, stopped};
 use line_forms::Asked;
-
-const STDOUT: i32 = 1;
+use std::io::{Read, Write};
 
 // 64 × 256 numbers.
 fn workspace() -> [u32; 16384]
     ensures { 16384 ≡ length result }
 {
     [0; 16384]
+}
+
+// 64 KB of what is read.
+fn buffer() -> [u8; 65536]
+    ensures { 65536 ≡ length result }
+{
+    [0; 65536]
 }
 
 fn output() -> [u8; 131072]
@@ -93,12 +99,20 @@ fn turn(
 }
 
 // Reads if the state requires it, answers and writes.
-fn step(asked: Asked, input: &mut [u8], before: State, ws: &mut [u32], out: &mut [u8]) -> State
+fn step<R: Read, W: Write>(
+    asked: Asked,
+    stdin: &mut R,
+    stdout: &mut W,
+    input: &mut [u8],
+    before: State,
+    ws: &mut [u32],
+    out: &mut [u8],
+) -> State
     requires ws_len { (length ws.old ≡ 16384) × (length out.old ≡ 131072) }
     requires holds { Holds input.old before × (stops before.next ≡ false) × (length input.old ≡ 65536) }
     ensures { Stepped (line_of asked) input.old input.new out.new before result × (length ws.new ≡ 16384) }
 {
-    let held = fill(input, before);
+    let held = fill(stdin, input, before);
     let asks = held.next;
     let Next::Answer = asks else {
         return held;
@@ -108,7 +122,7 @@ fn step(asked: Asked, input: &mut [u8], before: State, ws: &mut [u32], out: &mut
     let t = turn(asked, &input[from..end], held.inside, held.ended, ws, out);
     let n = t.written;
     let next = t.next;
-    let wrote = io::write_all(STDOUT, &out[0..n]);
+    let wrote = stdout.write_all(&out[0..n]).is_ok();
     State {
         from: from + t.read,
         end,
@@ -121,16 +135,21 @@ fn step(asked: Asked, input: &mut [u8], before: State, ws: &mut [u32], out: &mut
 
 // Answers each line of standard input on standard output. If a read or a write fails, it stops with
 // a message on standard error.
-pub fn answer_input(asked: Asked) {
+pub fn answer_input<R: Read, W: Write, E: Write>(
+    asked: Asked,
+    stdin: &mut R,
+    stdout: &mut W,
+    stderr: &mut E,
+) {
     let mut ws = workspace();
-    let mut input = io::large_buffer();
+    let mut input = buffer();
     let mut out = output();
     let mut state = fresh();
     let mut steps: u64 = 18446744073709551615;
     while 0 < steps {
-        state = step(asked, &mut input, state, &mut ws, &mut out);
+        state = step(asked, stdin, stdout, &mut input, state, &mut ws, &mut out);
         let next = state.next;
-        if stopped(next) {
+        if stopped(stderr, next) {
             return;
         }
         steps -= 1;

@@ -1,8 +1,14 @@
 // Each line of standard input is a symbol. The counts of its shape check, or its refusal, are a
 // line of standard output (crates/line_forms/specs/Lines.antt).
 #![tactic(auto)]
+
 use line_forms::Asked;
 
-fn main() {
-    line_stream::answer_input(Asked::Shape);
+fn main(rt: HostRuntime) {
+    line_stream::answer_input(
+        Asked::Shape,
+        &mut rt.stdin(),
+        &mut rt.stdout(),
+        &mut rt.stderr(),
+    );
 }

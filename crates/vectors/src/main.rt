@@ -1,4 +1,5 @@
 #![tactic(auto)]
+
 ghost use Rattle.std.specs.Prelude.{◌≡◌, ◌≤◌, ◌<◌, length};
 // Answers the lines of standard input, each on a line of standard output.
 //
@@ -12,6 +13,7 @@ ghost use Rattle.std.specs.Prelude.{◌≡◌, ◌≤◌, ◌<◌, length};
 mod readers;
 
 use definition::Answer;
+use std::io::{Read, Stdin, Stdout};
 use text_cursor::{Cursor, Number};
 
 // A number of a case, and the place after the tab that follows it.
@@ -21,12 +23,17 @@ struct Column {
     next: usize,
 }
 
-fn put(n: usize) {
-    io::print_decimal(1, n as u64);
+// Writes the bytes. A write that fails is passed over, here and below.
+fn write(to: Stdout, bytes: &[u8]) {
+    let _ = to.write_all(bytes);
 }
 
-fn space() {
-    io::write_all(1, b" ");
+fn put(to: Stdout, n: usize) {
+    let _ = to.print(n);
+}
+
+fn space(to: Stdout) {
+    write(to, b" ");
 }
 
 // A digit's character, for a digit below 16.
@@ -40,23 +47,23 @@ fn hex_digit(d: u8) -> u8 {
     63
 }
 
-fn put_hex(b: u8) {
+fn put_hex(to: Stdout, b: u8) {
     let digits = [hex_digit(b / 16), hex_digit(b % 16)];
-    io::write_all(1, &digits);
+    write(to, &digits);
 }
 
-fn put_number(x: u32) {
-    io::print_decimal(1, x as u64);
+fn put_number(to: Stdout, x: u32) {
+    let _ = to.print(x);
 }
 
 // The numbers with spaces between them.
-fn put_values(values: &[u64]) {
+fn put_values(to: Stdout, values: &[u64]) {
     let mut i = 0;
     while i < values.len() {
         if 0 < i {
-            space();
+            space(to);
         }
-        io::print_decimal(1, values[i]);
+        let _ = to.print(values[i]);
         i += 1;
     }
 }
@@ -70,31 +77,31 @@ fn written(a: Answer) -> usize {
 }
 
 // The six values of an answer and a tab; returns how much was written.
-fn put_answer(a: Answer) -> usize {
+fn put_answer(to: Stdout, a: Answer) -> usize {
     let six = call_values::numbers(a);
-    put_values(&six);
-    io::write_all(1, b"\t");
+    put_values(to, &six);
+    write(to, b"\t");
     written(a)
 }
 
-fn put_bytes(out: &[u8], n: usize) {
+fn put_bytes(to: Stdout, out: &[u8], n: usize) {
     let mut i = 0;
     while i < n {
         if i < out.len() {
-            put_hex(out[i]);
+            put_hex(to, out[i]);
         }
         i += 1;
     }
 }
 
-fn put_numbers(out: &[u32], n: usize) {
+fn put_numbers(to: Stdout, out: &[u32], n: usize) {
     let mut i = 0;
     while i < n {
         if 0 < i {
-            space();
+            space(to);
         }
         if i < out.len() {
-            put_number(out[i]);
+            put_number(to, out[i]);
         }
         i += 1;
     }
@@ -110,24 +117,24 @@ fn least(a: usize, b: usize) -> usize
 }
 
 // The calls 0 and 1.
-fn read(call: usize, text: &[u8], ceiling: usize, ws: &mut [u32], out: &mut [u8]) {
+fn read(to: Stdout, call: usize, text: &[u8], ceiling: usize, ws: &mut [u32], out: &mut [u8]) {
     if call == 0 {
         let a = swift_demangle::demangle(text, ceiling, ws, out);
-        let n = put_answer(a);
-        put_bytes(out, n);
+        let n = put_answer(to, a);
+        put_bytes(to, out, n);
     } else {
         let a = swift_demangle::demangle_type(text, ceiling, ws, out);
-        let n = put_answer(a);
-        put_bytes(out, n);
+        let n = put_answer(to, a);
+        put_bytes(to, out, n);
     }
 }
 
 // The calls 2 and 3.
-fn check(call: usize, text: &[u8], ceiling: usize, ws: &mut [u32]) {
+fn check(to: Stdout, call: usize, text: &[u8], ceiling: usize, ws: &mut [u32]) {
     if call == 2 {
-        put_answer(swift_shape::shape(text, ceiling, ws));
+        put_answer(to, swift_shape::shape(text, ceiling, ws));
     } else {
-        put_answer(swift_shape::shape_type(text, ceiling, ws));
+        put_answer(to, swift_shape::shape_type(text, ceiling, ws));
     }
 }
 
@@ -148,6 +155,7 @@ fn stopped(
 }
 
 fn run_call(
+    to: Stdout,
     call: usize,
     text: &[u8],
     ceiling: usize,
@@ -159,17 +167,17 @@ fn run_call(
 ) {
     if call < 2 {
         let m = least(room, bytes.len());
-        read(call, text, ceiling, ws, &mut bytes[0..m]);
+        read(to, call, text, ceiling, ws, &mut bytes[0..m]);
         return;
     }
     if call < 4 {
-        check(call, text, ceiling, ws);
+        check(to, call, text, ceiling, ws);
         return;
     }
     let m = least(room, numbers.len());
     let a = stopped(call, text, ceiling, k, ws, &mut numbers[0..m]);
-    let n = put_answer(a);
-    put_numbers(numbers, n);
+    let n = put_answer(to, a);
+    put_numbers(to, numbers, n);
 }
 
 // The number at that place, or 0 for `-`.
@@ -251,7 +259,14 @@ fn decode(line: &[u8], from: usize, text: &mut [u8]) -> usize
     n
 }
 
-fn run_case(line: &[u8], ws: &mut [u32], bytes: &mut [u8], numbers: &mut [u32], text: &mut [u8]) {
+fn run_case(
+    to: Stdout,
+    line: &[u8],
+    ws: &mut [u32],
+    bytes: &mut [u8],
+    numbers: &mut [u32],
+    text: &mut [u8],
+) {
     let call = field(line, 0);
     let ceiling = field(line, call.next);
     let k = field(line, ceiling.next);
@@ -260,6 +275,7 @@ fn run_case(line: &[u8], ws: &mut [u32], bytes: &mut [u8], numbers: &mut [u32], 
     let n = decode(line, room.next, text);
     let w = least(workspace.value, ws.len());
     run_call(
+        to,
         call.value,
         &text[0..n],
         ceiling.value,
@@ -278,24 +294,45 @@ fn starts_with_letter(line: &[u8]) -> bool {
     b'9' < line[0]
 }
 
-fn answer(line: &[u8], ws: &mut [u32], bytes: &mut [u8], numbers: &mut [u32], text: &mut [u8]) {
+fn answer(
+    to: Stdout,
+    line: &[u8],
+    ws: &mut [u32],
+    bytes: &mut [u8],
+    numbers: &mut [u32],
+    text: &mut [u8],
+) {
     if starts_with_letter(line) {
-        readers::answer(line);
+        readers::answer(to, line);
         return;
     }
-    run_case(line, ws, bytes, numbers, text);
+    run_case(to, line, ws, bytes, numbers, text);
 }
 
-fn run_line(line: &[u8], ws: &mut [u32], bytes: &mut [u8], numbers: &mut [u32], text: &mut [u8]) {
-    answer(line, ws, bytes, numbers, text);
-    io::write_all(1, b"\n");
+fn run_line(
+    to: Stdout,
+    line: &[u8],
+    ws: &mut [u32],
+    bytes: &mut [u8],
+    numbers: &mut [u32],
+    text: &mut [u8],
+) {
+    answer(to, line, ws, bytes, numbers, text);
+    write(to, b"\n");
 }
 
-fn run_lines(all: &[u8], ws: &mut [u32], bytes: &mut [u8], numbers: &mut [u32], text: &mut [u8]) {
+fn run_lines(
+    to: Stdout,
+    all: &[u8],
+    ws: &mut [u32],
+    bytes: &mut [u8],
+    numbers: &mut [u32],
+    text: &mut [u8],
+) {
     let mut at = 0;
     while at < all.len() {
         let end = line_forms::ends::line_end(all, at);
-        run_line(&all[at..end], ws, bytes, numbers, text);
+        run_line(to, &all[at..end], ws, bytes, numbers, text);
         at = end + 1;
     }
 }
@@ -318,12 +355,35 @@ fn stack() -> [u32; 12288] {
     [4294967295; 12288]
 }
 
-fn main() {
+// Reads until all is full, the input ends or a read fails; returns how many bytes were read.
+fn read_full(stdin: Stdin, all: &mut [u8]) -> usize
+    ensures { result ≤ length all.new }
+{
+    let mut stdin = stdin;
+    let mut done = 0;
+    while done < all.len() {
+        match stdin.read(&mut all[done..]) {
+            Ok(0) => return done,
+            Ok(n) => done += n,
+            Err(_) => return done,
+        }
+    }
+    done
+}
+
+fn main(rt: HostRuntime) {
     let mut all = input();
-    let n = io::read_full(0, &mut all);
+    let n = read_full(rt.stdin(), &mut all);
     let mut ws = workspace();
     let mut bytes = room();
     let mut numbers = stack();
     let mut text = room();
-    run_lines(&all[0..n], &mut ws, &mut bytes, &mut numbers, &mut text);
+    run_lines(
+        rt.stdout(),
+        &all[0..n],
+        &mut ws,
+        &mut bytes,
+        &mut numbers,
+        &mut text,
+    );
 }

@@ -5,11 +5,8 @@ use borrow.Author.Rules.{rules}
 use Rattle.line_buffers.specs.Buffers.{Fits, after_read}
 use Rattle.line_buffers.specs.declared.State.{State}
 use Rattle.line_buffers.specs.declared.Got.{Got}
-use Rattle.line_buffers.specs.declared.Got.TheVariants as Got
 use Rattle.line_buffers.proofs.came.Statement.{statement}
 use Rattle.line_buffers.proofs.came.Tie as tie
-use Rattle.line_buffers.proofs.came.Reads as reads
-use Rattle.line_buffers.proofs.came.Lts as lts
 
 -- the result of an arm is the definition's for what was read
 pub arm : (b : State) {x y : Got} {r : State} → x ≡ y → r ≡ after_read b y → r ≡ after_read b x

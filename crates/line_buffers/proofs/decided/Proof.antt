@@ -4,7 +4,6 @@ use Prim.Native.Nat.{ℕ}
 use native.Mathlib.Omega.{arith}
 use Rattle.line_buffers.specs.Buffers.{after_write}
 use Rattle.line_buffers.specs.declared.Next.{Next}
-use Rattle.line_buffers.specs.declared.Next.TheVariants as Next
 use Rattle.line_buffers.proofs.decided.Statement.{statement}
 use Rattle.line_buffers.proofs.decided.Tie as tie
 

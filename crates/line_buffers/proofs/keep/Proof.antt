@@ -7,8 +7,6 @@ use lib.Seq.{paste, paste-zero}
 use Rattle.line_buffers.proofs.Moves.{one_more}
 use Rattle.line_buffers.proofs.keep.Statement.{statement}
 use Rattle.line_buffers.proofs.keep.Tie as tie
-use Rattle.line_buffers.proofs.keep.Reads as reads
-use Rattle.line_buffers.proofs.keep.Lts as lts
 
 abbrev invariant-loop : tie.invariant-loop-i
 invariant-loop input₀ from to n i₀ input i = (length input ≡ length input₀) × (from + n ≡ to) × (to ≤ length input₀) × (i ≤ n) × (input ≡ paste input₀ 0 (drop from input₀) i)

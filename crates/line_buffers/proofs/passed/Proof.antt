@@ -3,9 +3,6 @@ use Rattle.line_buffers.proofs.Turns.{passed_line, passed_more, passed_end}
 use borrow.Author.Rules.{rules}
 use Rattle.line_buffers.proofs.passed.Statement.{statement}
 use Rattle.line_buffers.proofs.passed.Tie as tie
-use Rattle.line_buffers.proofs.passed.Reads as reads
-use Rattle.line_buffers.proofs.passed.Lts as lts
-use Rattle.line_forms.proofs.ends.line_end.Reads as line-end-reads
 
 line-end-requires : tie.Need-line_end-end-requires
 line-end-requires c κs = search rules

@@ -3,8 +3,6 @@ use Rattle.line_forms.proofs.Inputs.{owed_last, owed_none, owed_long}
 use borrow.Author.Rules.{rules}
 use Rattle.line_buffers.proofs.rest_of.Statement.{statement}
 use Rattle.line_buffers.proofs.rest_of.Tie as tie
-use Rattle.line_buffers.proofs.rest_of.Reads as reads
-use Rattle.line_buffers.proofs.rest_of.Lts as lts
 
 returns : tie.Need-returns-then-text-gt0
 returns c = (c.if-ended.true, λ line. owed_last line c.args.text.now c.requires (omega arith))

@@ -1,0 +1,13 @@
+-- The text has no ill-formed sequence, and no words fit any text.
+use Rattle.std.proofs.Common.{rules}
+use Rattle.text_utf8.proofs.Characters.{well_formed_all}
+use Rattle.vectors.proofs.readers.run_words.Goals as goal
+
+pub identifiers-requires : goal.identifiers-requires
+identifiers-requires c = (search rules, search rules, (c.new.ensures c.args.text.now).1, well_formed_all c.args.text.now c.in-Nowhere.ensures)
+
+pub spelled-requires : goal.spelled-requires
+spelled-requires c = (search rules, search rules, (c.new-in-112.ensures c.args.text.now).1, well_formed_all c.args.text.now c.in-Nowhere.ensures)
+
+pub counted-requires : goal.counted-requires
+counted-requires c = (search rules, search rules, well_formed_all c.args.text.now c.in-Nowhere.ensures)
