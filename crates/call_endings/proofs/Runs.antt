@@ -1,4 +1,5 @@
 -- The answers of the definition's runs, and the numbers that they refuse with. Assumes nothing.
+use Rattle.std.specs.Prelude.{if◌then◌else◌}
 use mathlib.Core.Path.{◌≡◌, refl}
 use mathlib.Core.Bool.{Bool, true, false, not}
 use mathlib.Core.List.{List, []}
@@ -7,7 +8,7 @@ use Prim.Native.Nat.{ℕ, ◌+◌, ◌-◌, ◌≤◌}
 use native.Mathlib.Omega.{arith}
 use lib.Dec.{T, eqb, ltb, leb, ltb→lt, not_T}
 use lib.ListN.{length}
-use Rattle.definition.specs.Base.{given, if◌then◌else◌}
+use Rattle.definition.specs.Base.{given}
 use Rattle.definition.specs.Text.{Symbol}
 use Rattle.definition.specs.Machine.{Machine}
 use Rattle.definition.specs.Budget as B

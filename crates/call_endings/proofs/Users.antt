@@ -1,5 +1,6 @@
 -- What a user wants to read about the calls, derived from their contracts: what a refused call
 -- leaves, what an accepted one wrote, and which numbers there are. Assumes nothing.
+use Rattle.std.specs.Prelude.{if◌then◌else◌}
 use mathlib.Core.Path.{◌≡◌, refl, sym, ap, subst, ◌∙◌}
 use mathlib.Core.Bool.{Bool, true, false, not}
 use mathlib.Core.List.{List, [], ◌++◌}
@@ -9,7 +10,7 @@ use native.Mathlib.Omega.{arith}
 use lib.Dec.{T, eqb, leb, leb→le, nleb→lt}
 use lib.ListN.{length, take, drop}
 use lib.Seq.{take-append_seam, drop-append_seam}
-use Rattle.definition.specs.Base.{given, if◌then◌else◌}
+use Rattle.definition.specs.Base.{given}
 use Rattle.definition.specs.Text.{Text, Symbol, ill_formed, split}
 use Rattle.definition.specs.Kind as K
 use Rattle.definition.specs.Calls as Calls

@@ -1,11 +1,12 @@
 -- Steps one after the other. Assumes nothing.
+use Rattle.std.specs.Prelude.{if◌then◌else◌}
 use mathlib.Core.Path.{◌≡◌, refl, sym, ap, subst, ◌∙◌}
 use mathlib.Core.Bool.{Bool, true, false}
 use mathlib.Core.List.{List}
 use mathlib.Core.Option.{Option, some, none}
 use Prim.Native.Nat.{ℕ, ◌+◌, ◌≤◌}
 use native.Mathlib.Omega.{arith}
-use Rattle.definition.specs.Base.{if◌then◌else◌, is_some, Out, ok, refused, Step, Done, ret, refuse, and_then, ◌>>=◌}
+use Rattle.definition.specs.Base.{is_some, Out, ok, refused, Step, Done, ret, refuse, and_then, ◌>>=◌}
 use Rattle.definition.specs.Kind as K
 use Rattle.definition.specs.Machine as M
 use Rattle.definition.specs.Shape as C

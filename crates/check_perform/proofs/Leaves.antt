@@ -1,4 +1,5 @@
 -- What a row leaves, and rows as a whole. Assumes nothing.
+use Rattle.std.specs.Prelude.{if◌then◌else◌}
 use mathlib.Core.Path.{◌≡◌, refl, sym, ap, subst, ◌∙◌}
 use mathlib.Core.Bool.{Bool, true, false, ◌&&◌}
 use mathlib.Core.List.{List, [], ◌∷◌}
@@ -9,7 +10,7 @@ use native.Mathlib.Nat.{not-suc-le-zero, le_of_suc-le-suc}
 use borrow.Author.Tests.{leb-true}
 use lib.Dec.{eqb, leb}
 use lib.ListN.{length, length-append, get_or}
-use Rattle.definition.specs.Base.{if◌then◌else◌, Out, Done, ret, and_then}
+use Rattle.definition.specs.Base.{Out, Done, ret, and_then}
 use Rattle.definition.specs.Kind as K
 use Rattle.definition.specs.Machine as M
 use Rattle.definition.specs.Shape as C

@@ -1,11 +1,12 @@
 -- One take after another. Assumes nothing.
+use Rattle.std.specs.Prelude.{if◌then◌else◌}
 use mathlib.Core.Path.{◌≡◌, refl, sym, ap, subst, ◌∙◌}
 use mathlib.Core.Bool.{Bool, true, false}
 use mathlib.Core.List.{List, ◌∷◌}
 use Prim.Native.Nat.{ℕ, ◌+◌, ◌-◌, ◌≤◌}
 use native.Mathlib.Omega.{arith}
 use lib.Dec.{eqb}
-use Rattle.definition.specs.Base.{if◌then◌else◌, is_some, Out, ok, refused, Done, ret, and_then, ◌>>=◌, ◌>>◌}
+use Rattle.definition.specs.Base.{is_some, Out, ok, refused, Done, ret, and_then, ◌>>=◌, ◌>>◌}
 use Rattle.definition.specs.Kind as K
 use Rattle.definition.specs.Machine.{wrap, rounds}
 use Rattle.definition.specs.Shape as C

@@ -1,6 +1,6 @@
 -- The results of lists of entries.
-use Rattle.std.specs.Prelude.{◌≡◌, Bool, true, false, List, ℕ, zero, suc, ◌+◌, ◌^◌, ◌≤◌, ◌<◌, eqb}
-use Rattle.definition.specs.Base.{if◌then◌else◌, ok, refused, ret, refuse, ◌>>=◌, ◌>>◌}
+use Rattle.std.specs.Prelude.{◌≡◌, Bool, true, false, List, ℕ, zero, suc, ◌+◌, ◌^◌, ◌≤◌, ◌<◌, eqb, if◌then◌else◌}
+use Rattle.definition.specs.Base.{ok, refused, ret, refuse, ◌>>=◌, ◌>>◌}
 use Rattle.definition.specs.Kind as K
 use Rattle.definition.specs.Machine.{rounds}
 use Rattle.definition.specs.Shape as C

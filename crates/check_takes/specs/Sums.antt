@@ -1,7 +1,7 @@
 -- One take of a row: the part of the definition's interpreter that is performed before the next
 -- take.
-use Rattle.std.specs.Prelude.{◌≡◌, Bool, true, false, List, ℕ, ◌+◌, ◌^◌, ◌≤◌, ◌<◌, eqb}
-use Rattle.definition.specs.Base.{if◌then◌else◌, ok, Done, ret, refuse, ◌>>=◌, ◌>>◌}
+use Rattle.std.specs.Prelude.{◌≡◌, Bool, true, false, List, ℕ, ◌+◌, ◌^◌, ◌≤◌, ◌<◌, eqb, if◌then◌else◌}
+use Rattle.definition.specs.Base.{ok, Done, ret, refuse, ◌>>=◌, ◌>>◌}
 use Rattle.definition.specs.Kind as K
 use Rattle.definition.specs.Machine as M
 use Rattle.definition.specs.Machine.{wrap, rounds}

@@ -4,6 +4,7 @@
 -- definition gives are large enough (`..-any`, `rounds_enough`). The law for `turns` is in
 -- proofs/WholeRuns, the law for the letters of `A` in crate `operator_substitutions`
 -- (proofs/ChainLaws `letters_chain`, `letters_are`).
+use Rattle.std.specs.Prelude.{if◌then◌else◌}
 use mathlib.Core.Path.{◌≡◌, refl, sym, ap, subst}
 use mathlib.Core.Bool.{Bool, true, false, ◌&&◌, not}
 use mathlib.Core.List.{List, [], ◌∷◌, ◌++◌}
@@ -14,7 +15,7 @@ use native.Mathlib.Omega.{arith}
 use borrow.Author.Tests.{ltb-false, eqb-false}
 use lib.Dec.{T, eqb, ltb, leb}
 use lib.ListN.{length, take, drop, length-drop, get_elem?}
-use Rattle.definition.specs.Base.{Name, decimal_before, decimal, if◌then◌else◌, given, is_some, between, is, digit, lower, upper, Out, ok, refused, Step, Done, ret, refuse, unless, and_then, ◌>>=◌}
+use Rattle.definition.specs.Base.{Name, decimal_before, decimal, given, is_some, between, is, digit, lower, upper, Out, ok, refused, Step, Done, ret, refuse, unless, and_then, ◌>>=◌}
 use Rattle.definition.specs.Text.{Text, peek, next_if, digits, natural, Utf8Row, utf8_rows, tails, second, by_row, character, ill_formed_from, ill_formed, well_formed}
 use Rattle.definition.specs.Words as W
 use Rattle.definition.specs.Words.{take_bytes, literal}

@@ -1,4 +1,5 @@
 -- Demand 3: no text is judged differently by check and reading, whole or stopped after k operators.
+use Rattle.std.specs.Prelude.{if◌then◌else◌}
 use mathlib.Core.Path.{◌≡◌, refl, sym, ap, ◌∙◌, subst}
 use mathlib.Core.Bool.{Bool, true, false, ◌&&◌, ◌||◌, not}
 use mathlib.Core.List.{List, [], ◌∷◌, ◌++◌, map, reverse, reverse_aux}
@@ -7,7 +8,7 @@ use Prim.Native.Nat.{ℕ, zero, suc, ◌+◌, ◌*◌, ◌-◌, ◌≤◌, ◌<�
 use native.Mathlib.Omega.{arith}
 use lib.Dec.{T, eqb, leb, leb-zero, leb→le, le→leb, not_T}
 use lib.ListN.{length}
-use Rattle.definition.specs.Base.{Name, digit, if◌then◌else◌, given, Out, ok, refused, Step, Done, ret, refuse, and_then, ◌>>=◌, ◌>>◌}
+use Rattle.definition.specs.Base.{Name, digit, given, Out, ok, refused, Step, Done, ret, refuse, and_then, ◌>>=◌, ◌>>◌}
 use Rattle.definition.specs.Text.{Text, Symbol, suffix_text, ill_formed, split}
 use Rattle.definition.specs.Words.{Identified, identifier}
 use Rattle.definition.specs.Kind as K

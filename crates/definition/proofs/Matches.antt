@@ -1,5 +1,6 @@
 -- What a `match` extracts from a node, by the kind of the node: the functions of specs/Perform that
 -- look into a node, as tests of its kind.
+use Rattle.std.specs.Prelude.{if◌then◌else◌}
 use mathlib.Core.Path.{◌≡◌, refl, ap, ◌∙◌}
 use mathlib.Core.Bool.{Bool, true, false, ◌&&◌, not}
 use mathlib.Core.List.{[]}
@@ -7,7 +8,7 @@ use mathlib.Core.Option.{Option, some, none}
 use Prim.Native.Nat.{ℕ, suc}
 use native.Mathlib.Omega.{arith}
 use lib.Dec.{T, eqb, eqb→eq, not_T}
-use Rattle.definition.specs.Base.{Name, if◌then◌else◌, given, ret, refuse, ◌>>=◌}
+use Rattle.definition.specs.Base.{Name, given, ret, refuse, ◌>>=◌}
 use Rattle.definition.specs.Kind as K
 use Rattle.definition.specs.Node as N
 use Rattle.definition.specs.Node.{Node, Nodes, nil, cons, View, named, listed, with_params, under, composed, other, Identifier, Module, Nominal, GenericParam, DependentMember, Tuple, FunctionType, GenericType, GenericSignature, ConformanceRequirement, SameTypeRequirement, ProtocolList, Metatype, InOut, BoundGeneric, Function, Variable, Accessor, Initializer, Deinitializer, VariableInitializer, Static, Record, Conformance, ProtocolWitness, ValueWitness, EmptyList, FirstElementMarker, VariadicMarker, Throws, Async, LazyWitness, AssociatedConformance, nominal_kind, kind, many, count, view, name_of, inner_of, only_of, member_of}

@@ -1,5 +1,6 @@
 -- Each operator, by its row of the table, has the same effect on the machine of the check as on the
 -- machine of trees.
+use Rattle.std.specs.Prelude.{if◌then◌else◌}
 use mathlib.Core.Path.{◌≡◌, refl, sym, ap, ◌∙◌, subst}
 use mathlib.Core.Bool.{Bool, true, false, ◌&&◌, ◌||◌, not}
 use mathlib.Core.List.{List, [], ◌∷◌, ◌++◌}
@@ -8,7 +9,7 @@ use Prim.Native.Nat.{ℕ, zero, suc, ◌+◌, ◌*◌, ◌-◌}
 use Prim.Native.String.{String}
 use native.Mathlib.Omega.{arith}
 use lib.Dec.{T, eqb}
-use Rattle.definition.specs.Base.{Name, bytes, if◌then◌else◌, given, Out, ok, refused, Step, Done, ret, refuse, and_then, ◌>>=◌, ◌>>◌, Late, good, bad, judge}
+use Rattle.definition.specs.Base.{Name, bytes, given, Out, ok, refused, Step, Done, ret, refuse, and_then, ◌>>=◌, ◌>>◌, Late, good, bad, judge}
 use Rattle.definition.specs.Text.{Param}
 use Rattle.definition.specs.Kind as K
 use Rattle.definition.specs.Kind.{Entry, entry}

@@ -1,5 +1,6 @@
 -- No operator changes the steps, and only an identifier changes the words: one line for each
 -- function of specs/Perform.antt.
+use Rattle.std.specs.Prelude.{if◌then◌else◌}
 use mathlib.Core.Path.{◌≡◌, refl, ◌∙◌, subst}
 use mathlib.Core.Bool.{Bool, true, false}
 use mathlib.Core.List.{List, [], ◌∷◌}
@@ -8,7 +9,7 @@ use Prim.Native.Nat.{ℕ, zero, suc, ◌+◌}
 use Prim.Native.String.{String}
 use lib.Dec.{eqb, ltb, leb}
 use lib.ListN.{get_elem?}
-use Rattle.definition.specs.Base.{Name, if◌then◌else◌, given, is_some, Out, ok, refused, Step, Done, ret, refuse, and_then, ◌>>=◌, Late, good, bad, judge}
+use Rattle.definition.specs.Base.{Name, given, is_some, Out, ok, refused, Step, Done, ret, refuse, and_then, ◌>>=◌, Late, good, bad, judge}
 use Rattle.definition.specs.Text.{Text, Param}
 use Rattle.definition.specs.Kind as K
 use Rattle.definition.specs.Node.{NominalKind, Node, Nodes, InOut, Metatype, Module, kind, name_of, member_of}

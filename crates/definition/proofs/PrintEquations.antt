@@ -1,6 +1,7 @@
 -- The equations of `print` (lines 330 to 507) and `print_params` (lines 557 to 578) as the source
 -- writes them, one law for each arm. specs/Print.antt makes all the ways to print a node at once;
 -- these laws say that the result is the same.
+use Rattle.std.specs.Prelude.{if◌then◌else◌}
 use mathlib.Core.Path.{◌≡◌, refl, ap, ◌∙◌, subst⁻¹}
 use mathlib.Core.Bool.{Bool, true, false, ◌&&◌, ◌||◌, not}
 use mathlib.Core.List.{[], ◌∷◌, ◌++◌}
@@ -8,7 +9,7 @@ use mathlib.Core.Option.{Option, none}
 use Prim.Native.Nat.{ℕ}
 use Prim.Native.String.{String}
 use lib.Dec.{T, eqb, leb, not_T, T_not}
-use Rattle.definition.specs.Base.{Name, bytes, same, if◌then◌else◌}
+use Rattle.definition.specs.Base.{Name, bytes, same}
 use Rattle.definition.specs.Kind as K
 use Rattle.definition.specs.Node.{NominalKind, Class, Struct, Enum, Protocol, TypeAlias, Labels, Node, Nodes, nil, cons, Identifier, Module, Nominal, GenericParam, DependentMember, Tuple, FunctionType, GenericType, GenericSignature, ConformanceRequirement, SameTypeRequirement, ProtocolList, Metatype, InOut, BoundGeneric, Function, Variable, Accessor, Initializer, Deinitializer, VariableInitializer, Static, Record, Conformance, ProtocolWitness, ValueWitness, EmptyList, FirstElementMarker, VariadicMarker, Throws, Async, LazyWitness, AssociatedConformance, nominal_kind, kind, many}
 use Rattle.definition.specs.Print.{join, dotted, generic_param_name, param_names, signature_text, params_from, in_parens, texts, effects, initializer_name, deinitializer_name, composition, printed, print_tuple, print_function_type, print_generic_type, print_nominal, print_variable, angled, bound, printing, printed_elements, print, print_params, qualified}

@@ -1,6 +1,7 @@
 -- How much a run can make for what it is charged: the depth of the stack, the weight of the entries
 -- on it, and what is remembered. Proved over the table of the check, row by row, with a computed
 -- test.
+use Rattle.std.specs.Prelude.{if◌then◌else◌}
 use mathlib.Core.Path.{◌≡◌, refl, sym, ap, ◌∙◌, subst}
 use mathlib.Core.Bool.{Bool, true, false, ◌&&◌}
 use mathlib.Core.List.{List, [], ◌∷◌, ◌++◌}
@@ -11,7 +12,7 @@ use lib.Dec.{T, eqb, ltb, leb, leb→le}
 use borrow.Author.Tests.{leb-true}
 use native.Mathlib.Nat.{mul-zero, mul-suc, one-mul, le_trans, le_of_eq, mul-le-mul_right}
 use lib.ListN.{length, length-append, length-replicate, get_elem?, replicate}
-use Rattle.definition.specs.Base.{if◌then◌else◌, given, is_some, Out, ok, refused, Done, ret, refuse, and_then, ◌>>=◌, ◌>>◌, Late, good, bad}
+use Rattle.definition.specs.Base.{given, is_some, Out, ok, refused, Done, ret, refuse, and_then, ◌>>=◌, ◌>>◌, Late, good, bad}
 use Rattle.definition.specs.Kind as K
 use Rattle.definition.specs.Kind.{Entry, entry}
 use Rattle.definition.specs.Operators as Op

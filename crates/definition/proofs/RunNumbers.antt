@@ -1,6 +1,7 @@
 -- A run refuses only with a number from 6 to 10, in the reading and in the check. Proved for the
 -- letters, which both share, and for the table of the check; it holds for the reading because the
 -- runs are alike.
+use Rattle.std.specs.Prelude.{if◌then◌else◌}
 use mathlib.Core.Path.{◌≡◌, ap, ◌∙◌, subst}
 use mathlib.Core.Bool.{Bool, true, false, ◌&&◌, not}
 use mathlib.Core.List.{List, [], ◌∷◌}
@@ -10,7 +11,7 @@ use Prim.Native.Char.{Char, code}
 use Prim.Native.String.{String}
 use lib.Dec.{T, eqb, ltb, leb, leb→le}
 use lib.ListN.{length, take, drop, get_elem?}
-use Rattle.definition.specs.Base.{is, digit, lower, upper, pick, if◌then◌else◌, given, Out, ok, refused, Step, Done, ret, refuse, or_refuse, unless, and_then, ◌>>=◌, ◌>>◌, Late, good, bad}
+use Rattle.definition.specs.Base.{is, digit, lower, upper, pick, given, Out, ok, refused, Step, Done, ret, refuse, or_refuse, unless, and_then, ◌>>=◌, ◌>>◌, Late, good, bad}
 use Rattle.definition.specs.Text.{Text, Lex, param, peek, next, next_if, checked, digits, natural, index, index_plus_one, depth_and_index, generic_param_index, well_formed}
 use Rattle.definition.specs.Words.{take_bytes, literal}
 use Rattle.definition.specs.Kind as K

@@ -1,5 +1,6 @@
 -- The machine of the check simulates the machine of trees: what that means, and the parts that
 -- operators are made of.
+use Rattle.std.specs.Prelude.{if◌then◌else◌}
 use mathlib.Core.Path.{◌≡◌, refl, sym, ap, subst}
 use mathlib.Core.Bool.{Bool, true, false, ◌&&◌, not}
 use mathlib.Core.List.{List, [], ◌∷◌, ◌++◌, map, map-append}
@@ -8,7 +9,7 @@ use Prim.Native.Nat.{ℕ, zero, suc, ◌+◌, ◌-◌}
 use native.Mathlib.Omega.{arith}
 use lib.Dec.{T, eqb, eqb→eq, eqb-suc-zero}
 use lib.ListN.{length, length-map, get_elem?, replicate}
-use Rattle.definition.specs.Base.{Name, if◌then◌else◌, given, is_some, Out, ok, refused, Step, Done, ret, refuse, and_then, ◌>>=◌, Late, good, bad, judge}
+use Rattle.definition.specs.Base.{Name, given, is_some, Out, ok, refused, Step, Done, ret, refuse, and_then, ◌>>=◌, Late, good, bad, judge}
 use Rattle.definition.specs.Words.{is_empty}
 use Rattle.definition.specs.Kind as K
 use Rattle.definition.specs.Kind.{Entry, entry}

@@ -1,5 +1,6 @@
 -- A whole run is not cut off by the number of its turns: if none is refused no text is left, and
 -- more turns would change nothing.
+use Rattle.std.specs.Prelude.{if◌then◌else◌}
 use mathlib.Core.Path.{◌≡◌, refl, sym, ap, ◌∙◌, subst}
 use mathlib.Core.Bool.{Bool, true, false}
 use mathlib.Core.List.{[], ◌∷◌}
@@ -7,7 +8,7 @@ use Prim.Native.Nat.{ℕ, zero, suc, ◌+◌, ◌≤◌, ◌<◌}
 use native.Mathlib.Omega.{arith}
 use lib.Dec.{T, ltb, leb, ltb→lt}
 use lib.ListN.{length}
-use Rattle.definition.specs.Base.{digit, if◌then◌else◌, Out, ok, refused, Step, Done, ◌>>=◌}
+use Rattle.definition.specs.Base.{digit, Out, ok, refused, Step, Done, ◌>>=◌}
 use Rattle.definition.specs.Text.{Text}
 use Rattle.definition.specs.Words.{Identified, identifier}
 use Rattle.definition.specs.Budget as B

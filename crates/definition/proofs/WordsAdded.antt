@@ -1,5 +1,6 @@
 -- Words are only added: each part of a reading leaves a list of words that begins with the one that
 -- it was given. Every known word has 2 bytes or more, and there are at most 26.
+use Rattle.std.specs.Prelude.{if◌then◌else◌}
 use mathlib.Core.Path.{◌≡◌, refl, sym, ap, ◌∙◌, subst, subst⁻¹}
 use mathlib.Core.Bool.{Bool, true, false, ◌&&◌, not}
 use mathlib.Core.List.{List, [], ◌∷◌, ◌++◌, append-nil, append_assoc}
@@ -8,7 +9,7 @@ use Prim.Native.Nat.{ℕ, zero, suc, ◌≤◌, ◌<◌}
 use native.Mathlib.Omega.{arith}
 use lib.Dec.{T, ltb, leb, leb→le, ltb→lt}
 use lib.ListN.{length, length-append, get_elem?}
-use Rattle.definition.specs.Base.{Name, if◌then◌else◌, is, digit, upper, Out, ok, refused, Step, Done, ret, unless, ◌>>=◌, ◌>>◌}
+use Rattle.definition.specs.Base.{Name, is, digit, upper, Out, ok, refused, Step, Done, ret, unless, ◌>>=◌, ◌>>◌}
 use Rattle.definition.specs.Text.{Text, Lex, peek, next_if}
 use Rattle.definition.specs.Words.{most_words, keep, starts, note_words_from, note_words, spelled, word_letters, literal, Identified, identified, identifier_from, is_empty, identifier}
 use Rattle.definition.specs.Budget as B

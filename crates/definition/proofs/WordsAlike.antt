@@ -1,4 +1,5 @@
 -- The check reads an identifier as the reading does, although it knows only the number of words.
+use Rattle.std.specs.Prelude.{if◌then◌else◌}
 use mathlib.Core.Path.{◌≡◌, refl, sym, ap, ◌∙◌, subst}
 use mathlib.Core.Bool.{Bool, true, false, ◌&&◌, ◌||◌, not}
 use mathlib.Core.List.{List, [], ◌∷◌, ◌++◌}
@@ -7,7 +8,7 @@ use Prim.Native.Nat.{ℕ, zero, suc, ◌-◌}
 use Prim.Native.Char.{code}
 use lib.Dec.{T, ltb, leb, leb-zero, leb-suc-zero, leb-suc-suc}
 use lib.ListN.{length, get_elem?}
-use Rattle.definition.specs.Base.{Name, is, lower, upper, if◌then◌else◌, is_some, Out, ok, refused, ret, refuse, unless, and_then, ◌>>=◌, ◌>>◌}
+use Rattle.definition.specs.Base.{Name, is, lower, upper, is_some, Out, ok, refused, ret, refuse, unless, and_then, ◌>>=◌, ◌>>◌}
 use Rattle.definition.specs.Text.{Text, Lex, next_if}
 use Rattle.definition.specs.Words.{keep, starts, note_words_from, note_words, Spelled, spelled, word_letters, literal, Identified, identified, identifier_from, is_empty, identifier}
 use Rattle.definition.specs.Check as C

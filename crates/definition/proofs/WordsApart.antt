@@ -1,5 +1,6 @@
 -- Only an identifier uses the words of the check: with other words every other operator has the
 -- same result, with those other words.
+use Rattle.std.specs.Prelude.{if◌then◌else◌}
 use mathlib.Core.Path.{◌≡◌, refl, sym, ap, ◌∙◌}
 use mathlib.Core.Bool.{Bool, true, false, ◌&&◌}
 use mathlib.Core.List.{List, [], ◌∷◌}
@@ -7,7 +8,7 @@ use mathlib.Core.Option.{Option, some, none}
 use Prim.Native.Nat.{ℕ, zero, suc}
 use lib.Dec.{eqb}
 use lib.ListN.{get_elem?}
-use Rattle.definition.specs.Base.{if◌then◌else◌, given, is_some, digit, Out, ok, refused, Step, Done, ret, refuse, and_then, ◌>>=◌, Late, good, bad, judge}
+use Rattle.definition.specs.Base.{given, is_some, digit, Out, ok, refused, Step, Done, ret, refuse, and_then, ◌>>=◌, Late, good, bad, judge}
 use Rattle.definition.specs.Text.{Text}
 use Rattle.definition.specs.Kind as K
 use Rattle.definition.specs.Kind.{Entry}

@@ -54,11 +54,6 @@ unfoldable pub decimal : ℕ → Name
 decimal n = decimal_before (suc n) n []
 
 -- CHOICES
-infix 15 if◌then◌else◌
-abbrev pub if◌then◌else◌ : {A : Type 0} → Bool → A → A → A
-if true then a else b = a
-if false then a else b = b
-
 -- what to do with a value that may be missing
 abbrev pub given : {A B : Type 0} → Option A → B → (A → B) → B
 given none b f = b

@@ -1,10 +1,10 @@
 -- The stack machine (lines 581 to 674), over the items on its stack: trees in the reading, entries
 -- in the check.
-use Rattle.std.specs.Prelude.{Bool, true, List, [], ◌∷◌, ◌++◌, ℕ, suc, eqb, length, replicate}
+use Rattle.std.specs.Prelude.{Bool, true, List, [], ◌∷◌, ◌++◌, ℕ, suc, eqb, length, replicate, if◌then◌else◌}
 use Rattle.std.proofs.Math.Option.{Option, some, none}
 use Rattle.std.proofs.Math.ListN.{get_elem?}
 use Rattle.definition.specs.Budget.{opened as opened₀}
-use Rattle.definition.specs.Base.{if◌then◌else◌, given, is_some, Out, ok, refused, Step, Done, ret, and_then, ◌>>=◌, ◌>>◌}
+use Rattle.definition.specs.Base.{given, is_some, Out, ok, refused, Step, Done, ret, and_then, ◌>>=◌, ◌>>◌}
 use Rattle.definition.specs.Budget as B
 use Rattle.definition.specs.Budget.{Budget}
 

@@ -1,12 +1,12 @@
 -- The letters and operands of the operators: the effect of `operator` (lines 726 to 786) and the
 -- functions below it on the text only. Reading and check share them. A letter that the Rust judges
 -- after it has taken nodes is `Late`.
-use Rattle.std.specs.Prelude.{Bool, true, false, ◌&&◌, List, [], ◌∷◌, ◌++◌, ℕ, zero, suc, ◌+◌, ◌-◌, max, ltb, leb, length}
+use Rattle.std.specs.Prelude.{Bool, true, false, ◌&&◌, List, [], ◌∷◌, ◌++◌, ℕ, zero, suc, ◌+◌, ◌-◌, max, ltb, leb, length, if◌then◌else◌}
 use Rattle.std.proofs.Math.Option.{Option, some, none}
 use Prim.Native.Char.{Char, code}
 use Prim.Native.String.{String}
 use Rattle.definition.specs.Words.{opened as opened₀}
-use Rattle.definition.specs.Base.{Name, bytes, decimal, is, digit, lower, upper, pick, if◌then◌else◌, given, Out, ok, refused, Step, Done, ret, refuse, or_refuse, unless, and_then, ◌>>=◌, ◌>>◌, Late, good, bad}
+use Rattle.definition.specs.Base.{Name, bytes, decimal, is, digit, lower, upper, pick, given, Out, ok, refused, Step, Done, ret, refuse, or_refuse, unless, and_then, ◌>>=◌, ◌>>◌, Late, good, bad}
 use Rattle.definition.specs.Text.{Text, Lex, Param, param, next, peek, next_if, natural, index, index_plus_one, depth_and_index, generic_param_index}
 use Rattle.definition.specs.Node.{NominalKind, Class, Struct, Enum, Protocol, TypeAlias}
 use Rattle.definition.specs.Budget.{most_steps, most_wraps}

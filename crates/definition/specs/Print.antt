@@ -2,12 +2,12 @@
 -- the parts of a tree, so `print`, `print_params` and the two ways to print a type after a name are
 -- the fields of one record that is built bottom up. proofs/PrintEquations.antt states them as the
 -- source writes them.
-use Rattle.std.specs.Prelude.{Bool, true, false, ◌&&◌, List, [], ◌∷◌, ◌++◌, ℕ, zero, suc, ◌+◌, ◌/◌, ◌%◌, eqb, ltb}
+use Rattle.std.specs.Prelude.{Bool, true, false, ◌&&◌, List, [], ◌∷◌, ◌++◌, ℕ, zero, suc, ◌+◌, ◌/◌, ◌%◌, eqb, ltb, if◌then◌else◌}
 use Rattle.std.proofs.Math.Option.{Option, some, none}
 use Prim.Native.String.{String}
 use Rattle.std.proofs.Math.ListN.{get_elem?}
 use Rattle.definition.specs.Node.{opened as opened₀}
-use Rattle.definition.specs.Base.{Name, bytes, decimal, same, if◌then◌else◌}
+use Rattle.definition.specs.Base.{Name, bytes, decimal, same}
 use Rattle.definition.specs.Kind as K
 use Rattle.definition.specs.Node.{Labels, Node, Nodes, nil, cons, Identifier, Module, Nominal, GenericParam, DependentMember, Tuple, FunctionType, GenericType, GenericSignature, ConformanceRequirement, SameTypeRequirement, ProtocolList, Metatype, InOut, BoundGeneric, Function, Variable, Accessor, Initializer, Deinitializer, VariableInitializer, Static, Record, Conformance, ProtocolWitness, ValueWitness, EmptyList, FirstElementMarker, VariadicMarker, Throws, Async, LazyWitness, AssociatedConformance, kind}
 

@@ -1,12 +1,12 @@
 -- 01, "Shape entries": the rules of the check, a table of what each operator takes and leaves, and
 -- the only interpreter, which runs its rows. The trees of the reading are not used here; of
 -- specs/Node only the numbers of the five nominal kinds are used (`nominal_kind`).
-use Rattle.std.specs.Prelude.{Bool, true, false, ◌&&◌, List, [], ◌∷◌, ◌++◌, ℕ, zero, suc, ◌+◌, ◌*◌, ◌-◌, eqb}
+use Rattle.std.specs.Prelude.{Bool, true, false, ◌&&◌, List, [], ◌∷◌, ◌++◌, ℕ, zero, suc, ◌+◌, ◌*◌, ◌-◌, eqb, if◌then◌else◌}
 use Rattle.std.proofs.Math.Option.{Option, some, none}
 use Prim.Native.String.{String}
 use Rattle.definition.specs.Operators.{opened as opened₀}
 use Rattle.definition.specs.Machine.{opened as opened₁}
-use Rattle.definition.specs.Base.{if◌then◌else◌, given, Out, ok, refused, Step, Done, ret, refuse, and_then, ◌>>=◌, ◌>>◌, Late, good, bad, judge}
+use Rattle.definition.specs.Base.{given, Out, ok, refused, Step, Done, ret, refuse, and_then, ◌>>=◌, ◌>>◌, Late, good, bad, judge}
 use Rattle.definition.specs.Kind as K
 use Rattle.definition.specs.Kind.{Entry, entry}
 use Rattle.definition.specs.Node.{nominal_kind}

@@ -1,7 +1,7 @@
 -- Document 01, "Program `names`": the answers of the programs `names` and `shapes`, as bytes.
 -- Assumes nothing.
-use Rattle.std.specs.Prelude.{◌≡◌, Bool, true, false, List, [], ◌∷◌, ◌++◌, ℕ, ◌<◌, eqb, leb, length, get_or}
-use Rattle.definition.specs.Base.{decimal, if◌then◌else◌}
+use Rattle.std.specs.Prelude.{◌≡◌, Bool, true, false, List, [], ◌∷◌, ◌++◌, ℕ, ◌<◌, eqb, leb, length, get_or, if◌then◌else◌}
+use Rattle.definition.specs.Base.{decimal}
 use Rattle.definition.specs.Text.{Text}
 use Rattle.definition.specs.Calls.{Values, Answer}
 use Rattle.definition.specs.Reading.{demangle}

@@ -1,7 +1,7 @@
 -- The counts after `r`, one at a time. Assumes nothing.
-use Rattle.std.specs.Prelude.{◌≡◌, ℕ, ◌+◌, ◌^◌, ◌<◌, Bool}
+use Rattle.std.specs.Prelude.{◌≡◌, ℕ, ◌+◌, ◌^◌, ◌<◌, Bool, if◌then◌else◌}
 use Rattle.std.proofs.Math.Option.{Option, some, none}
-use Rattle.definition.specs.Base.{Out, refused, if◌then◌else◌, is, ret, ◌>>=◌, ◌>>◌}
+use Rattle.definition.specs.Base.{Out, refused, is, ret, ◌>>=◌, ◌>>◌}
 use Rattle.definition.specs.Text.{Text, Lex, next_if, index_plus_one}
 use Rattle.definition.specs.Enums as Enums
 use Rattle.text_cursor.specs.declared.Cursor.{Cursor}

@@ -1,4 +1,5 @@
 -- The form of a record: the tests for sugar, and the number. Assumes nothing.
+use Rattle.std.specs.Prelude.{if◌then◌else◌}
 use mathlib.Core.Path.{◌≡◌, refl, sym, ap, subst, ◌∙◌}
 use mathlib.Core.Bool.{Bool, true, false, ◌&&◌, ◌||◌, not}
 use mathlib.Core.List.{List}
@@ -7,7 +8,7 @@ use Prim.Native.String.{String}
 use native.Mathlib.Omega.{arith}
 use borrow.Author.Tests.{eq-eqb, ne_eqb, lt-ltb, le-ltb, lt-leb, le-leb}
 use lib.Dec.{T, eqb, ltb, leb, T_not, eqb_refl}
-use Rattle.definition.specs.Base.{Name, bytes, same, if◌then◌else◌}
+use Rattle.definition.specs.Base.{Name, bytes, same}
 use Rattle.definition.specs.Kind as K
 use Rattle.definition.specs.Node.{NominalKind, Node, Nodes, Module, Nominal, BoundGeneric, Accessor, kind, many}
 use Rattle.definition.specs.Print.{print, printing, printed}

@@ -1,4 +1,5 @@
 -- The row of a record has the text of the tree that is stored there. Assumes nothing.
+use Rattle.std.specs.Prelude.{if◌then◌else◌}
 use mathlib.Core.Path.{◌≡◌, refl, sym, ap, subst, ◌∙◌}
 use mathlib.Core.Bool.{Bool, true, false, ◌&&◌, not}
 use mathlib.Core.List.{List, [], ◌++◌, append_assoc}
@@ -8,7 +9,7 @@ use native.Mathlib.Omega.{arith}
 use borrow.Author.Tests.{eqb-true, ne_eqb, le-ltb}
 use lib.Dec.{T, eqb}
 use lib.ListN.{get_or}
-use Rattle.definition.specs.Base.{Name, bytes, if◌then◌else◌}
+use Rattle.definition.specs.Base.{Name, bytes}
 use Rattle.definition.specs.Kind as K
 use Rattle.definition.specs.Node as D
 use Rattle.definition.specs.Node.{Class, Struct, Enum, Protocol, TypeAlias, Node, Nodes, nil, cons, Identifier, Module, Nominal, GenericParam, DependentMember, Tuple, FunctionType, GenericType, GenericSignature, ConformanceRequirement, SameTypeRequirement, ProtocolList, Metatype, InOut, BoundGeneric, Function, Variable, Accessor, Initializer, Deinitializer, VariableInitializer, Static, Record, Conformance, ProtocolWitness, ValueWitness, EmptyList, FirstElementMarker, VariadicMarker, Throws, Async, LazyWitness, AssociatedConformance, nominal_kind, kind, many, count, view}

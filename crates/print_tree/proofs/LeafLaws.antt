@@ -1,4 +1,5 @@
 -- What depends only on the numbers of a record, and the list of a code. Assumes nothing.
+use Rattle.std.specs.Prelude.{if◌then◌else◌}
 use mathlib.Core.Path.{◌≡◌, sym, ap, ◌∙◌}
 use mathlib.Core.Bool.{Bool, true, false, ◌&&◌}
 use mathlib.Core.List.{List}
@@ -6,7 +7,6 @@ use Prim.Native.Nat.{ℕ, ◌≤◌, ◌<◌}
 use native.Mathlib.Omega.{arith}
 use borrow.Author.Tests.{eq-eqb, ne_eqb}
 use lib.Dec.{eqb}
-use Rattle.definition.specs.Base.{if◌then◌else◌}
 use Rattle.definition.specs.Kind as K
 use Rattle.definition.specs.Operators.{suspend_resume_text}
 use Rattle.definition.specs.Print.{effects, join, generic_param_name, param_names}

@@ -1,5 +1,6 @@
 // The text and a cursor into it: bytes, numbers and indices.
 #![tactic(auto)]
+
 ghost use Rattle.std.specs.Prelude.{◌≡◌, ℕ, ◌+◌, ◌≤◌, ◌<◌, eqb, length, drop};
 ghost use Rattle.definition.specs.Base.{digit, lower, upper};
 ghost use Rattle.definition.specs.Text as Text;

@@ -1,5 +1,6 @@
 -- The loop of specs/Rounds.antt is the definition's, with words as a table and with words as a
 -- count. Assumes nothing.
+use Rattle.std.specs.Prelude.{if◌then◌else◌}
 use mathlib.Core.Path.{◌≡◌, refl, sym, ap, ◌∙◌}
 use mathlib.Core.Bool.{Bool, true, false, ◌&&◌, not}
 use mathlib.Core.List.{List, [], ◌∷◌, ◌++◌}
@@ -9,7 +10,7 @@ use Prim.Native.Char.{code}
 use native.Mathlib.Omega.{arith}
 use lib.Dec.{ltb, leb-zero, leb-suc-zero, leb-suc-suc}
 use lib.ListN.{length, get_elem?}
-use Rattle.definition.specs.Base.{Name, is, lower, upper, if◌then◌else◌, Out, ok, refused, ret, unless, and_then, ◌>>=◌}
+use Rattle.definition.specs.Base.{Name, is, lower, upper, Out, ok, refused, ret, unless, and_then, ◌>>=◌}
 use Rattle.definition.specs.Text.{Text, Lex, next_if}
 use Rattle.definition.specs.Words as W
 use Rattle.definition.specs.Words.{literal, note_words, is_empty}

@@ -1,8 +1,8 @@
 -- The loop of an identifier, over words that are known as a table or as a count. Both of the
 -- definition's loops are this one (proofs/Alike.antt). The contracts of the functions inside this
 -- crate use it; those of `identifier` and `identifier_count` do not.
-use Rattle.std.specs.Prelude.{Bool, true, false, ◌&&◌, not, ℕ, zero, suc, length}
-use Rattle.definition.specs.Base.{Name, is, if◌then◌else◌, ret, refuse, unless, ◌>>=◌, ◌>>◌}
+use Rattle.std.specs.Prelude.{Bool, true, false, ◌&&◌, not, ℕ, zero, suc, length, if◌then◌else◌}
+use Rattle.definition.specs.Base.{Name, is, ret, refuse, unless, ◌>>=◌, ◌>>◌}
 use Rattle.definition.specs.Text.{Text, Lex, next_if, well_formed}
 use Rattle.definition.specs.Words.{take_bytes, literal, is_empty}
 use Rattle.definition.specs.Check.{Spelled, spelled, word_letters}

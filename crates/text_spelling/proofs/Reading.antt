@@ -1,5 +1,6 @@
 -- An identifier that was read is spelled, segment by segment, by every later table. Assumes
 -- nothing.
+use Rattle.std.specs.Prelude.{if◌then◌else◌}
 use mathlib.Core.Path.{◌≡◌, refl, sym, ap, ◌∙◌, subst, subst⁻¹}
 use mathlib.Core.Bool.{Bool, true, false, ◌&&◌, not, and-eq-true_iff}
 use mathlib.Core.List.{List, [], ◌∷◌, ◌++◌, append-nil, append_assoc}
@@ -9,7 +10,7 @@ use Prim.Native.Char.{code}
 use native.Mathlib.Omega.{arith}
 use lib.Dec.{ltb}
 use lib.ListN.{length, get_elem?}
-use Rattle.definition.specs.Base.{Name, if◌then◌else◌, is, lower, upper, Out, ok, refused, Step, Done, ret, unless, and_then, ◌>>=◌, ◌>>◌}
+use Rattle.definition.specs.Base.{Name, is, lower, upper, Out, ok, refused, Step, Done, ret, unless, and_then, ◌>>=◌, ◌>>◌}
 use Rattle.definition.specs.Text.{Text, peek, next_if, natural, well_formed}
 use Rattle.definition.specs.Words.{note_words, Spelled, spelled, word_letters, take_bytes, literal, Identified, identified, identifier_from, is_empty, identifier}
 use Rattle.definition.proofs.WordsAdded.{Begins, Looked, begins_trans, found_again, identifier_from_begins}

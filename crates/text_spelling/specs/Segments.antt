@@ -1,11 +1,11 @@
 -- The segments of an identifier, one after another, using a table of words that does not change.
 -- Assumes nothing. No words are noted, UTF-8 is not checked, and the name ends where something
 -- cannot be read.
-use Rattle.std.specs.Prelude.{Bool, true, false, ◌&&◌, not, List, [], ◌∷◌, ◌++◌, ℕ, ◌-◌, ltb}
+use Rattle.std.specs.Prelude.{Bool, true, false, ◌&&◌, not, List, [], ◌∷◌, ◌++◌, ℕ, ◌-◌, ltb, if◌then◌else◌}
 use Rattle.std.proofs.Math.Option.{Option, some, none}
 use Prim.Native.Char.{code}
 use Rattle.std.proofs.Math.ListN.{get_elem?}
-use Rattle.definition.specs.Base.{Name, if◌then◌else◌, is, lower, upper, Out, ok, refused, ret, unless, ◌>>=◌, ◌>>◌}
+use Rattle.definition.specs.Base.{Name, is, lower, upper, Out, ok, refused, ret, unless, ◌>>=◌, ◌>>◌}
 use Rattle.definition.specs.Text.{Text, Lex, next_if, natural}
 use Rattle.definition.specs.Words.{take_bytes}
 

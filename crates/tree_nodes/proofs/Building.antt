@@ -1,11 +1,12 @@
 -- Function types and conformances: trees that are made of what is taken.
+use Rattle.std.specs.Prelude.{if◌then◌else◌}
 use mathlib.Core.Path.{◌≡◌, refl, sym, ap, ◌∙◌, subst}
 use mathlib.Core.Bool.{Bool}
 use mathlib.Core.List.{List, [], ◌∷◌}
 use Prim.Native.Nat.{ℕ, ◌+◌, ◌≤◌}
 use native.Mathlib.Omega.{arith}
 use lib.Dec.{eqb}
-use Rattle.definition.specs.Base.{refused, if◌then◌else◌}
+use Rattle.definition.specs.Base.{refused}
 use Rattle.definition.specs.Kind as K
 use Rattle.definition.specs.Node.{Node, FunctionType, Conformance, kind, size, count, view, param_count}
 use Rattle.definition.specs.Machine as M

@@ -1,9 +1,9 @@
 -- A tree whose kind is known.
+use Rattle.std.specs.Prelude.{if◌then◌else◌}
 use mathlib.Core.Path.{◌≡◌, refl}
 use Prim.Native.Nat.{◌≤◌}
 use native.Mathlib.Omega.{arith}
 use lib.Dec.{T, eqb}
-use Rattle.definition.specs.Base.{if◌then◌else◌}
 use Rattle.definition.specs.Kind as K
 use Rattle.definition.specs.Node as N
 use Rattle.definition.proofs.Matches.{the_name}

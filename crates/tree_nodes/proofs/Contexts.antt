@@ -1,11 +1,12 @@
 -- The context on top.
+use Rattle.std.specs.Prelude.{if◌then◌else◌}
 use mathlib.Core.Path.{◌≡◌, refl, sym, ap, ◌∙◌, subst}
 use mathlib.Core.Bool.{Bool, true, false}
 use mathlib.Core.List.{List, [], ◌∷◌}
 use Prim.Native.Nat.{ℕ, ◌-◌, ◌<◌}
 use native.Mathlib.Omega.{arith}
 use lib.Dec.{T}
-use Rattle.definition.specs.Base.{Out, ok, refused, if◌then◌else◌, and_then, ret, refuse}
+use Rattle.definition.specs.Base.{Out, ok, refused, and_then, ret, refuse}
 use Rattle.definition.specs.Kind as K
 use Rattle.definition.proofs.Matches.{the_name, context_in_is}
 use Rattle.definition.specs.Node.{Node, Identifier, Module, kind, size, count, view}

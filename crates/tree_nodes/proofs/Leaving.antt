@@ -1,11 +1,12 @@
 -- A new record on the stack, and one more wrap.
+use Rattle.std.specs.Prelude.{if◌then◌else◌}
 use mathlib.Core.Path.{◌≡◌, refl, sym, ap, ◌∙◌, subst}
 use mathlib.Core.Bool.{Bool, true, false}
 use mathlib.Core.List.{List}
 use Prim.Native.Nat.{ℕ, suc, ◌+◌, ◌≤◌}
 use native.Mathlib.Omega.{arith}
 use lib.Dec.{ltb}
-use Rattle.definition.specs.Base.{Done, Out, ok, refused, if◌then◌else◌}
+use Rattle.definition.specs.Base.{Done, Out, ok, refused}
 use Rattle.definition.specs.Enums.{number}
 use Rattle.definition.specs.Node.{size}
 use Rattle.definition.specs.Budget as B

@@ -1,4 +1,5 @@
 -- Taking a tree of a kind from the stack.
+use Rattle.std.specs.Prelude.{if◌then◌else◌}
 use mathlib.Core.Path.{◌≡◌, refl, sym, ap, ◌∙◌, subst}
 use mathlib.Core.Bool.{Bool, true, false}
 use mathlib.Core.List.{List, [], ◌∷◌}
@@ -7,7 +8,7 @@ use lib.Dec.{T, eqb}
 use Prim.Native.Nat.{ℕ, ◌+◌, ◌*◌, ◌≤◌, ◌<◌}
 use native.Mathlib.Omega.{arith}
 use lib.ListN.{length}
-use Rattle.definition.specs.Base.{ok, refused, if◌then◌else◌, is_some}
+use Rattle.definition.specs.Base.{ok, refused, is_some}
 use Rattle.definition.specs.Kind as K
 use Rattle.definition.proofs.Matches.{the_name, name_in_is}
 use Rattle.definition.specs.Node.{Node, Identifier, kind, size, view}

@@ -2,8 +2,8 @@
 // node over the top.
 #![tactic(auto)]
 
-ghost use Rattle.std.specs.Prelude.{◌≡◌, List, [], ◌∷◌, ℕ, ◌+◌, ◌*◌, ◌≤◌, ◌<◌, eqb, length};
-ghost use Rattle.definition.specs.Base.{bytes, if◌then◌else◌};
+ghost use Rattle.std.specs.Prelude.{◌≡◌, List, [], ◌∷◌, ℕ, ◌+◌, ◌*◌, ◌≤◌, ◌<◌, eqb, length, if◌then◌else◌};
+ghost use Rattle.definition.specs.Base.{bytes};
 ghost use Rattle.definition.specs.Enums as Enums;
 ghost use Rattle.definition.specs.Kind as K;
 ghost use Rattle.definition.specs.Node as Node;

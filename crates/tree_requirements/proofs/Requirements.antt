@@ -1,4 +1,5 @@
 -- Requirements: a subject, and the constraint on it.
+use Rattle.std.specs.Prelude.{if◌then◌else◌}
 use mathlib.Core.Path.{◌≡◌, refl, sym, ap, ◌∙◌, subst}
 use mathlib.Core.Bool.{Bool, true, false}
 use mathlib.Core.List.{List, [], ◌∷◌}
@@ -7,7 +8,7 @@ use Prim.Native.String.{String}
 use native.Mathlib.Omega.{arith}
 use lib.Dec.{eqb}
 use borrow.Author.Tests.{ne_eqb}
-use Rattle.definition.specs.Base.{Done, bytes, refused, if◌then◌else◌, ◌>>=◌, ◌>>◌}
+use Rattle.definition.specs.Base.{Done, bytes, refused, ◌>>=◌, ◌>>◌}
 use Rattle.definition.specs.Kind as K
 use Rattle.definition.specs.Enums as E
 use Rattle.definition.specs.Enums.{number}

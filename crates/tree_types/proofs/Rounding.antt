@@ -1,4 +1,5 @@
 -- One round of each list.
+use Rattle.std.specs.Prelude.{if◌then◌else◌}
 use mathlib.Core.Path.{◌≡◌, refl, subst}
 use mathlib.Core.Bool.{Bool, true, false}
 use mathlib.Core.List.{List}
@@ -6,7 +7,7 @@ use mathlib.Core.Option.{Option, some, none}
 use Prim.Native.Nat.{ℕ, suc, ◌≤◌, ◌<◌}
 use native.Mathlib.Omega.{arith}
 use lib.Dec.{eqb}
-use Rattle.definition.specs.Base.{Name, ok, refused, ret, if◌then◌else◌}
+use Rattle.definition.specs.Base.{Name, ok, refused, ret}
 use Rattle.definition.specs.Kind as K
 use Rattle.definition.specs.Node.{Node, Nodes, cons, size}
 use Rattle.definition.specs.Perform as R

@@ -1,7 +1,7 @@
 -- Lists that operators take from the stack: how they are stored in the workspace, and what the code
 -- that takes them says about the definition's loops.
-use Rattle.std.specs.Prelude.{◌≡◌, List, ℕ, suc, ◌+◌, ◌≤◌, ◌<◌}
-use Rattle.definition.specs.Base.{refused, ret, if◌then◌else◌, ◌>>=◌, ◌>>◌}
+use Rattle.std.specs.Prelude.{◌≡◌, List, ℕ, suc, ◌+◌, ◌≤◌, ◌<◌, if◌then◌else◌}
+use Rattle.definition.specs.Base.{refused, ret, ◌>>=◌, ◌>>◌}
 use Rattle.definition.specs.Node.{Node, Nodes, nil, BoundGeneric, kind, size, count, sizes, many}
 use Rattle.definition.specs.Machine as M
 use Rattle.definition.specs.Perform as R

@@ -1,4 +1,5 @@
 -- Numbers that are compared one by one, and two answers, value by value. Assumes nothing.
+use Rattle.std.specs.Prelude.{if◌then◌else◌}
 use mathlib.Core.Path.{◌≡◌, refl, sym, ap, ap₂, subst, ◌∙◌}
 use mathlib.Core.Bool.{Bool, true, false, not, ◌&&◌}
 use mathlib.Core.List.{List}
@@ -8,7 +9,7 @@ use borrow.Author.Tests.{eq-eqb, ne_eqb}
 use lib.Dec.{T, eqb, leb, eqb→eq, leb→le, le→leb, nleb→lt, not_T}
 use lib.ListN.{length, get_or, take, drop}
 use lib.Seq.{get_or-take, length-take-le}
-use Rattle.definition.specs.Base.{if◌then◌else◌, same}
+use Rattle.definition.specs.Base.{same}
 use Rattle.definition.specs.Calls as Calls
 use Rattle.definition.specs.Calls.{refusal}
 use Rattle.definition.specs.Alike.{with_text, WholeAlike}

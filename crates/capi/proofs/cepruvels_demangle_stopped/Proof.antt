@@ -10,7 +10,7 @@ use Rattle.call_values.proofs.numbers.Reads as numbers-reads
 use Rattle.swift_demangle.proofs.demangle_stopped.Reads as demangle-stopped-reads
 
 -- src/lib.rt:81:9
-demangle-stopped-requires : tie.Need-demangle-stopped-requires
+demangle-stopped-requires : tie.Need-demangle_stopped-a-requires
 demangle-stopped-requires c κs = search rules
 
 -- src/lib.rt:82:15
@@ -18,18 +18,22 @@ numbers-requires : tie.Need-numbers-requires
 numbers-requires c κs = search rules
 
 -- src/lib.rt:70:1
-same_length : tie.Need-same-length
+same_length : tie.Need-shape_of-workspace
 same_length c = search rules
 
 -- src/lib.rt:70:1
-same-length-2 : tie.Need-same-length-2
+same-length-2 : tie.Need-shape_of-out
 same-length-2 c = search rules
 
 -- src/lib.rt:70:1
 returns : tie.Need-returns
-returns c = (told c.before.before.before.before.before.demangle_stopped.ensures.0 c.numbers.ensures, scratch_told (ap (λ (v : Values). v.number) c.before.before.before.before.before.demangle_stopped.ensures.0.values) c.before.before.before.before.before.demangle_stopped.ensures.1)
+returns c = (told c.demangle_stopped-a.ensures.0 c.numbers.ensures, scratch_told (ap (λ (v : Values). v.number) c.demangle_stopped-a.ensures.0.values) c.demangle_stopped-a.ensures.1)
 
 pub cepruvels_demangle_stopped_spec : {M : Type 1} → statement M
 cepruvels_demangle_stopped_spec =
     tie.close
-    (tie.spec demangle-stopped-requires numbers-requires same_length same-length-2 returns)
+    (tie.spec demangle-stopped-requires
+    numbers-requires
+    same_length
+    same-length-2
+    returns)

@@ -10,7 +10,7 @@ use Rattle.call_values.proofs.numbers.Reads as numbers-reads
 use Rattle.swift_demangle.proofs.demangle_type.Reads as demangle-type-reads
 
 -- src/lib.rt:37:9
-demangle-type-requires : tie.Need-demangle-type-requires
+demangle-type-requires : tie.Need-demangle_type-a-requires
 demangle-type-requires c κs = search rules
 
 -- src/lib.rt:38:15
@@ -18,17 +18,21 @@ numbers-requires : tie.Need-numbers-requires
 numbers-requires c κs = search rules
 
 -- src/lib.rt:27:1
-same_length : tie.Need-same-length
+same_length : tie.Need-shape_of-workspace
 same_length c = search rules
 
 -- src/lib.rt:27:1
-same-length-2 : tie.Need-same-length-2
+same-length-2 : tie.Need-shape_of-out
 same-length-2 c = search rules
 
 -- src/lib.rt:27:1
 returns : tie.Need-returns
-returns c = (told c.before.before.before.before.before.demangle_type.ensures.0 c.numbers.ensures, scratch_told (ap (λ (v : Values). v.number) c.before.before.before.before.before.demangle_type.ensures.0.values) c.before.before.before.before.before.demangle_type.ensures.1)
+returns c = (told c.demangle_type-a.ensures.0 c.numbers.ensures, scratch_told (ap (λ (v : Values). v.number) c.demangle_type-a.ensures.0.values) c.demangle_type-a.ensures.1)
 
 pub cepruvels_demangle_type_spec : {M : Type 1} → statement M
 cepruvels_demangle_type_spec =
-    tie.close (tie.spec demangle-type-requires numbers-requires same_length same-length-2 returns)
+    tie.close (tie.spec demangle-type-requires
+    numbers-requires
+    same_length
+    same-length-2
+    returns)

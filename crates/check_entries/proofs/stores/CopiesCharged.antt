@@ -1,4 +1,5 @@
 -- Copies, charged. Assumes nothing.
+use Rattle.std.specs.Prelude.{if◌then◌else◌}
 use mathlib.Core.Path.{◌≡◌, refl, sym, ap, ◌∙◌}
 use mathlib.Core.Bool.{Bool, true, false}
 use mathlib.Core.List.{List}
@@ -7,7 +8,7 @@ use native.Mathlib.Omega.{arith}
 use native.Mathlib.Nat.{le_trans, le_of_eq, one-mul, mul-le-mul_right}
 use borrow.Author.Tests.{leb-true}
 use lib.Dec.{leb}
-use Rattle.definition.specs.Base.{if◌then◌else◌, Out, ok, refused, Done, and_then}
+use Rattle.definition.specs.Base.{Out, ok, refused, Done, and_then}
 use Rattle.definition.specs.Budget as B
 use Rattle.definition.specs.Machine as M
 use Rattle.definition.specs.Machine.{spent, spend}

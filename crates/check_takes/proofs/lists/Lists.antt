@@ -1,4 +1,5 @@
 -- Rounds of the loops over lists. Assumes nothing.
+use Rattle.std.specs.Prelude.{if◌then◌else◌}
 use mathlib.Core.Path.{◌≡◌, refl, sym, ap, subst, ◌∙◌}
 use mathlib.Core.Bool.{Bool, true, false}
 use mathlib.Core.List.{List}
@@ -6,7 +7,7 @@ use mathlib.Core.Option.{some, none}
 use Prim.Native.Nat.{ℕ, suc, ◌+◌, ◌-◌, ◌<◌}
 use native.Mathlib.Omega.{arith}
 use lib.Dec.{eqb}
-use Rattle.definition.specs.Base.{if◌then◌else◌, ret}
+use Rattle.definition.specs.Base.{ret}
 use Rattle.definition.specs.Kind as K
 use Rattle.definition.specs.Machine.{rounds}
 use Rattle.definition.specs.Shape as C

@@ -1,4 +1,5 @@
 -- Labels, wraps, and what is added to what was taken. Assumes nothing.
+use Rattle.std.specs.Prelude.{if◌then◌else◌}
 use mathlib.Core.Path.{◌≡◌, refl, sym, ap, ◌∙◌}
 use mathlib.Core.Bool.{Bool, true, false}
 use mathlib.Core.List.{List}
@@ -7,7 +8,7 @@ use Prim.Native.Nat.{ℕ, suc, ◌+◌, ◌-◌, ◌≤◌, ◌<◌}
 use native.Mathlib.Omega.{arith}
 use borrow.Author.Tests.{eq-eqb, ne_eqb}
 use lib.Dec.{eqb, ltb}
-use Rattle.definition.specs.Base.{if◌then◌else◌, Out, ok, refused, Done, and_then, ◌>>=◌, ◌>>◌}
+use Rattle.definition.specs.Base.{Out, ok, refused, Done, and_then, ◌>>=◌, ◌>>◌}
 use Rattle.definition.specs.Kind as K
 use Rattle.definition.specs.Budget as B
 use Rattle.definition.specs.Machine as M

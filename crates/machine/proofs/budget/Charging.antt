@@ -1,4 +1,5 @@
 -- What a successful charge says.
+use Rattle.std.specs.Prelude.{if◌then◌else◌}
 use mathlib.Core.Path.{◌≡◌, refl, sym}
 use mathlib.Core.Bool.{Bool, true, false}
 use Prim.Native.Nat.{ℕ, ◌+◌, ◌*◌, ◌≤◌}
@@ -6,7 +7,7 @@ use native.Mathlib.Omega.{arith}
 use native.Mathlib.Nat.{le_trans, le_of_eq, one-mul, mul-le-mul_right}
 use lib.Dec.{leb}
 use borrow.Author.Tests.{leb-true}
-use Rattle.definition.specs.Base.{Out, ok, refused, Done, if◌then◌else◌}
+use Rattle.definition.specs.Base.{Out, ok, refused, Done}
 use Rattle.definition.specs.Budget as B
 
 module _ (N n : ℕ) (b c : B.Budget) (q : B.charge N n b ≡ ok tt c) where

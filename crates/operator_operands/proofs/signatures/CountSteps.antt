@@ -1,10 +1,11 @@
 -- The counts after `r`, at a place of a text. Assumes nothing.
+use Rattle.std.specs.Prelude.{if◌then◌else◌}
 use mathlib.Core.Path.{◌≡◌, refl, ap, subst, ◌∙◌}
 use mathlib.Core.Bool.{Bool, true, false}
 use mathlib.Core.Option.{Option, some, none}
 use Prim.Native.Nat.{ℕ, suc, ◌+◌, ◌^◌, ◌≤◌, ◌<◌}
 use lib.ListN.{length, drop}
-use Rattle.definition.specs.Base.{if◌then◌else◌, Out, ok, refused, is, and_then, ret}
+use Rattle.definition.specs.Base.{Out, ok, refused, is, and_then, ret}
 use Rattle.definition.specs.Text.{Text, Lex, next_if, index_plus_one}
 use Rattle.definition.specs.Budget.{most_wraps}
 use Rattle.definition.specs.Operators.{counts}

@@ -1,4 +1,5 @@
 -- The segments at a place of a text. Assumes nothing.
+use Rattle.std.specs.Prelude.{if◌then◌else◌}
 use mathlib.Core.Path.{◌≡◌, refl, sym, ap, ◌∙◌}
 use mathlib.Core.Bool.{Bool, true, false, ◌&&◌, not}
 use mathlib.Core.List.{List, []}
@@ -9,7 +10,7 @@ use borrow.Author.Tests.{lt-ltb, le-leb, lt-leb, leb-true}
 use lib.Dec.{leb}
 use lib.ListN.{length, get_or, take, drop, get_elem?, length-drop}
 use lib.Seq.{drop-drop, drop-length}
-use Rattle.definition.specs.Base.{Name, if◌then◌else◌, is, lower, upper, ok, refused, ret, unless, and_then, ◌>>=◌, ◌>>◌}
+use Rattle.definition.specs.Base.{Name, is, lower, upper, ok, refused, ret, unless, and_then, ◌>>=◌, ◌>>◌}
 use Rattle.definition.specs.Text.{Text, next_if, natural}
 use Rattle.definition.specs.Words.{take_bytes}
 use Rattle.text_cursor.proofs.Steps.{front, ended, differ}

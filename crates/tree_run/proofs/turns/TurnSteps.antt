@@ -1,4 +1,5 @@
 -- The beginning of a turn, and the operator after it. Assumes nothing.
+use Rattle.std.specs.Prelude.{if◌then◌else◌}
 use mathlib.Core.Path.{◌≡◌, refl, sym, ap, subst, ◌∙◌}
 use mathlib.Core.Bool.{Bool, true, false}
 use mathlib.Core.List.{List, ◌∷◌}
@@ -7,7 +8,7 @@ use Prim.Native.String.{String}
 use native.Mathlib.Omega.{arith}
 use lib.Dec.{ltb}
 use lib.ListN.{length, get_or, drop}
-use Rattle.definition.specs.Base.{digit, Out, ok, refused, Done, if◌then◌else◌, and_then}
+use Rattle.definition.specs.Base.{digit, Out, ok, refused, Done, and_then}
 use Rattle.definition.specs.Text.{Text}
 use Rattle.definition.specs.Words as W
 use Rattle.definition.specs.Budget as B

@@ -1,4 +1,5 @@
 -- A list in cells: one more cell, and what is unchanged when records are added.
+use Rattle.std.specs.Prelude.{if◌then◌else◌}
 use mathlib.Core.Path.{◌≡◌, refl, sym, ap, ◌∙◌, subst}
 use mathlib.Core.Bool.{Bool, true, false}
 use mathlib.Core.List.{List, [], ◌∷◌}
@@ -6,7 +7,7 @@ use mathlib.Core.Option.{Option, some, none}
 use Prim.Native.Nat.{ℕ, ◌+◌, ◌≤◌, ◌<◌}
 use native.Mathlib.Omega.{arith}
 use lib.Dec.{T}
-use Rattle.definition.specs.Base.{Out, ok, if◌then◌else◌}
+use Rattle.definition.specs.Base.{Out, ok}
 use Rattle.definition.specs.Kind as K
 use Rattle.definition.proofs.Matches.{the_name}
 use Rattle.definition.specs.Node.{Node, Nodes, Identifier, nil, cons, kind, size, sizes, many, view, name_of}
