@@ -2,14 +2,13 @@
 # to target/compare.
 #
 # RUST_SOURCE   the Rust source to compare with, unchanged and never committed
-# LIBCAPI       the folder of our calls, which `rt staticlib capi` and `rt staticlib capi_check`
-#               write
+# LIBCAPI       a folder with both archives of our calls; without it, those that `rt lib capi` and
+#               `rt lib capi_check` write are taken from crates/capi/out and crates/capi_check/out
 # ORACLE        an instrumented copy of the Rust other than the one that instrument.py makes, built
 #               as a library; or `none`: without one
 root=$(cd "$here/.." && pwd)
 out=$root/target/compare
 RUST_SOURCE=${RUST_SOURCE:-$root/../shared/docs/src/crates/ag-engine/src/swift_demangle.rs}
-LIBCAPI=${LIBCAPI:-$root/target/staticlib}
 mkdir -p "$out"
 link=()
 archives=()
@@ -39,10 +38,11 @@ reference() {
 
 # Our calls.
 capi() {
-    local name
+    local name folder
     for name in capi capi_check; do
-        [ -f "$LIBCAPI/lib$name.a" ] || fail "no $LIBCAPI/lib$name.a: run 'rt staticlib $name' first, or set LIBCAPI"
-        archives+=("$(cd "$LIBCAPI" && pwd)/lib$name.a")
+        folder=${LIBCAPI:-$root/crates/$name/out}
+        [ -f "$folder/lib$name.a" ] || fail "no $folder/lib$name.a: run 'rt lib $name' first, or set LIBCAPI"
+        archives+=("$(cd "$folder" && pwd)/lib$name.a")
         link+=(-C "link-arg=${archives[-1]}")
     done
 }

@@ -20,17 +20,6 @@ def norm(name):
     return re.sub("-+", "-", name.replace("_", "-"))
 
 
-def lent_to(callee, form=r"&mut \["):
-    """The names of the parameters of that form of a function of this repository."""
-    parts = callee.split("::")
-    for path in glob.glob(f"{CRATES}/{parts[0]}/src/**/*.rt", recursive=True):
-        with open(path, encoding="utf-8") as f:
-            m = re.search(r"\bfn " + re.escape(parts[-1]) + r"(?:<[^>]*>)?\((.*?)\)\s*(?:->|\n|\{)", f.read(), re.S)
-        if m:
-            return re.findall(r"(\w+): " + form, m.group(1))
-    return []
-
-
 class Names:
     """The names of one function: places with their steps, goals and loops."""
 
@@ -120,16 +109,12 @@ class Names:
                     if rest and rest[0] == old:
                         rest = [now] + rest[1:]
                         break
-                if len(rest) > 1 and rest[0] == "auto" and rest[1].isdigit() and callee:
-                    lent = lent_to(callee)
-                    if int(rest[1]) < len(lent):
-                        rest = ["auto", lent[int(rest[1])]] + rest[2:]
-                if len(rest) > 1 and rest[0] == "new" and rest[1].isdigit() and callee in self.params:
+                if len(rest) > 1 and rest[0] in ("auto", "new") and rest[1].isdigit() and callee in self.params:
                     # The parameters were a pair of the first and the others.
                     k = 1
                     while rest[k] == "1":
                         k += 1
-                    rest = ["new", self.params[callee][k - 1]] + rest[k + 1:]
+                    rest = [rest[0], self.params[callee][k - 1]] + rest[k + 1:]
                 return [step[1]] + rest
             seek = parent
         return None
@@ -319,8 +304,6 @@ def rename_paths(part, names, env, said):
 
 
 def main(argv):
-    global CRATES
-    CRATES = os.path.dirname(os.path.abspath(argv[1].rstrip("/")))
     with open(argv[0], encoding="utf-8") as f:
         listed = json.load(f)
     crate = argv[1].rstrip("/")

@@ -17,22 +17,22 @@ type-stopped-requires : tie.Need-type_stopped-stopped_types_agree-requires
 type-stopped-requires c κs = search rules
 
 same_length : tie.Need-shape_of-reading_workspace
-same_length c = c.type_stopped-stopped_types_agree.auto.check_workspace.1.1.0 ∙ c.symbol_stopped-stopped_symbols_agree.auto.check_workspace.1.1.0 ∙ c.type_whole-types_agree.auto.check_workspace.1.0 ∙ c.symbol_whole-symbols_agree.auto.check_workspace.1.0
+same_length c = c.type_stopped-stopped_types_agree.auto.reading_workspace ∙ c.symbol_stopped-stopped_symbols_agree.auto.reading_workspace ∙ c.type_whole-types_agree.auto.reading_workspace ∙ c.symbol_whole-symbols_agree.auto.reading_workspace
 
 same-length-2 : tie.Need-shape_of-check_workspace
-same-length-2 c = c.type_stopped-stopped_types_agree.auto.check_workspace.1.1.1.0 ∙ c.symbol_stopped-stopped_symbols_agree.auto.check_workspace.1.1.1.0 ∙ c.type_whole-types_agree.auto.check_workspace.1.1.0 ∙ c.symbol_whole-symbols_agree.auto.check_workspace.1.1.0
+same-length-2 c = c.type_stopped-stopped_types_agree.auto.check_workspace ∙ c.symbol_stopped-stopped_symbols_agree.auto.check_workspace ∙ c.type_whole-types_agree.auto.check_workspace ∙ c.symbol_whole-symbols_agree.auto.check_workspace
 
 same-length-3 : tie.Need-shape_of-out
-same-length-3 c = c.type_whole-types_agree.auto.check_workspace.1.1.1.0 ∙ c.symbol_whole-symbols_agree.auto.check_workspace.1.1.1.0
+same-length-3 c = c.type_whole-types_agree.auto.out ∙ c.symbol_whole-symbols_agree.auto.out
 
 same-length-4 : tie.Need-shape_of-reading_stack
-same-length-4 c = c.type_stopped-stopped_types_agree.auto.check_workspace.1.1.1.1.0 ∙ c.symbol_stopped-stopped_symbols_agree.auto.check_workspace.1.1.1.1.0
+same-length-4 c = c.type_stopped-stopped_types_agree.auto.reading_stack ∙ c.symbol_stopped-stopped_symbols_agree.auto.reading_stack
 
 same-length-5 : tie.Need-shape_of-check_stack
-same-length-5 c = c.type_stopped-stopped_types_agree.auto.check_workspace.1.1.1.1.1.0 ∙ c.symbol_stopped-stopped_symbols_agree.auto.check_workspace.1.1.1.1.1.0
+same-length-5 c = c.type_stopped-stopped_types_agree.auto.check_stack ∙ c.symbol_stopped-stopped_symbols_agree.auto.check_stack
 
 returns : tie.Need-returns
-returns c = judges c.args.text.now c.args.ceiling c.args.k c.symbol_whole-symbols_agree.ensures c.type_whole-types_agree.ensures c.symbol_stopped-stopped_symbols_agree.ensures c.type_stopped-stopped_types_agree.ensures c.symbol_whole-symbols_agree.auto.check_workspace.1.1.1.0 c.symbol_stopped-stopped_symbols_agree.auto.check_workspace.1.1.1.1.0 c.symbol_stopped-stopped_symbols_agree.auto.check_workspace.1.1.1.1.1.0
+returns c = judges c.args.text.now c.args.ceiling c.args.k c.symbol_whole-symbols_agree.ensures c.type_whole-types_agree.ensures c.symbol_stopped-stopped_symbols_agree.ensures c.type_stopped-stopped_types_agree.ensures c.symbol_whole-symbols_agree.auto.out c.symbol_stopped-stopped_symbols_agree.auto.reading_stack c.symbol_stopped-stopped_symbols_agree.auto.check_stack
 
 pub judged_alike_spec : {M : Type 1} → statement M
 judged_alike_spec =
