@@ -1,18 +1,11 @@
--- Bytes that are moved to the front, and what is done next. Assumes nothing.
-use mathlib.Core.Path.{◌≡◌, sym, ap, subst, ◌∙◌}
+-- Bytes that are moved to the front. Assumes nothing.
+use mathlib.Core.Path.{◌≡◌, sym, ap, ◌∙◌}
 use mathlib.Core.List.{List}
 use Prim.Native.Nat.{ℕ, ◌+◌, ◌<◌}
 use native.Mathlib.Omega.{arith}
 use native.Mathlib.Numerals.{add-one}
 use lib.ListN.{length, get_or, set, take, drop, length-drop}
 use lib.Seq.{paste, paste-suc, get_or-append-add, get_or-drop, length-take-le}
-use denote.Enum.Declared.{tag_of}
-use mathlib.Core.Bool.{not}
-use lib.Dec.{T}
-use mir.Val.{has_key}
-use types.Run.{OneOf, miss}
-use Rattle.line_buffers.specs.declared.Next.{Next}
-use Rattle.line_buffers.specs.contracts.Next.{the_type}
 
 -- what is read there is not yet overwritten
 pub not_yet : (l : List ℕ) (from i : ℕ) → from + i < length l → get_or (paste l 0 (drop from l) i) (from + i) 0 ≡ get_or (drop from l) i 0
@@ -29,7 +22,3 @@ one_more l from i {input} h e =
     let k : 0 + i < length l = omega arith in
     let j : i < length (drop from l) = omega (arith, length-drop from l) in
     ap (λ (x : List ℕ). set x i (get_or x (from + i) 0)) e ∙ ap (set (paste l 0 (drop from l) i) i) (not_yet l from i h) ∙ ap (λ (n : ℕ). set (paste l 0 (drop from l) i) n (get_or (drop from l) i 0)) z ∙ paste-suc l 0 (drop from l) i 0 k j ∙ ap (paste l 0 (drop from l)) (sym (add-one i))
-
--- what is done next is none of the others
-pub other : (ks : List ℕ) (m : Next) → T (not (has_key ks (tag_of the_type m))) → (n : Next) → OneOf ks (tag_of the_type n) → n ≡ m → ⊥
-other ks m t n h e = miss ks (tag_of the_type m) t (subst (λ (x : Next). OneOf ks (tag_of the_type x)) e h)

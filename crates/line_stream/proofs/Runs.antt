@@ -1,12 +1,11 @@
 -- All that a run writes is the definition's answers to all that it read. Assumes nothing.
-use mathlib.Core.Path.{◌≡◌, refl, sym, ap, ◌∙◌}
-use mathlib.Core.Bool.{true, false}
-use mathlib.Core.List.{List, [], ◌++◌, append_assoc}
+use mathlib.Core.Path.{◌≡◌, refl, ap, ◌∙◌}
+use mathlib.Core.List.{List, ◌++◌}
 use Prim.Native.Nat.{ℕ}
 use lib.ListN.{take}
 use Rattle.definition.specs.Text.{Text}
 use Rattle.line_forms.specs.Lines.{answers, owed}
-use Rattle.line_buffers.specs.Buffers.{Follows, due, fetched, Stepped, Run, ends, goes_on, start}
+use Rattle.line_buffers.specs.Buffers.{Follows, due, Run, ends, goes_on, start}
 use Rattle.line_buffers.specs.declared.State.{State}
 
 module _ (line : Text → List ℕ) where

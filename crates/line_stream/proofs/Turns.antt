@@ -2,7 +2,7 @@
 use mathlib.Core.Path.{◌≡◌, refl, sym, ap, subst, ◌∙◌}
 use mathlib.Core.Bool.{Bool, true, false}
 use mathlib.Core.List.{List, [], ◌++◌, append_assoc, append-nil}
-use Prim.Native.Nat.{ℕ, ◌+◌, ◌≤◌, ◌<◌}
+use Prim.Native.Nat.{ℕ, ◌≤◌, ◌<◌}
 use native.Mathlib.Omega.{arith}
 use lib.ListN.{length, take, drop, take-append-drop}
 use lib.Seq.{take_at, drop-length}
@@ -14,11 +14,10 @@ use Rattle.line_forms.specs.declared.Asked.{Asked}
 use Rattle.line_stream.specs.Does.{Answered}
 use Rattle.line_stream.specs.declared.answers.Progress.{Progress}
 use Rattle.line_stream.proofs.answers.Laws.{line_long}
-use Rattle.line_buffers.specs.Buffers.{LongAlike, Resting, Follows, Turned}
+use Rattle.line_buffers.specs.Buffers.{LongAlike, Resting, Turned}
 use Rattle.line_buffers.specs.declared.Next.TheVariants as Next
 use Rattle.line_buffers.specs.declared.Turn.{Turn}
 use Rattle.line_buffers.specs.declared.Rest.{Rest}
-use Rattle.line_buffers.specs.declared.Rest.TheVariants as Rest
 
 pub turned_at : {line : Text → List ℕ} {t : Text} {i j ended : Bool} {o : List ℕ} {r : Turn} → i ≡ j → Turned line t j ended o r → Turned line t i ended o r
 turned_at {line} {t} {i} {j} {ended} {o} {r} e h = subst (λ (x : Bool). Turned line t x ended o r) (sym e) h

@@ -15,7 +15,6 @@ use Rattle.definition.specs.Calls.{Values}
 use Rattle.definition.specs.Enums.{values, number}
 use Rattle.definition.specs.declared.Counts.{Counts}
 use Rattle.definition.specs.declared.Refusal.{Refusal}
-use Rattle.definition.specs.declared.Refusal.TheVariants as Refusal
 use Rattle.definition.specs.declared.Answer.{Answer}
 use Rattle.definition.specs.declared.Answer.TheVariants.{Accepted, Refused}
 use Rattle.definition.specs.Check as Check
@@ -25,7 +24,6 @@ use Rattle.text_output.specs.Sink.{Room, Wrote, wrote_in, wrote_then}
 use Rattle.line_forms.specs.Appends.{longest, Space, Appends}
 use Rattle.line_forms.specs.Lines.{refused_line, accepted_line, counts_told, line_answer, name_answer, shape_answer, read_line, name_line, shape_line, line_of}
 use Rattle.line_forms.specs.declared.Asked.{Asked}
-use Rattle.line_forms.specs.declared.Asked.TheVariants as Asked
 use Rattle.line_forms.proofs.Laws.{appended, appends_is}
 use Rattle.line_forms.proofs.Sizes.{refused_long}
 use Rattle.line_stream.specs.Does.{Reads}

@@ -6,87 +6,81 @@ use Rattle.line_stream.proofs.Turns.{turned_at, turned_lines, no_lines, turned_l
 use borrow.Author.Rules.{rules}
 use Rattle.line_stream.proofs.turn.Statement.{statement}
 use Rattle.line_stream.proofs.turn.Tie as tie
-use Rattle.line_stream.proofs.turn.Reads as reads
-use Rattle.line_stream.proofs.turn.Lts as lts
-use Rattle.line_buffers.proofs.passed.Reads as Passed-reads
-use Rattle.line_buffers.proofs.rest_of.Reads as rest-of-reads
-use Rattle.line_stream.proofs.answers.answer_line.Reads as answer-line-reads
-use Rattle.line_stream.proofs.answers.answer_lines.Reads as answer-lines-reads
 
 passed-requires : tie.Need-passed-requires
 passed-requires c κs = search rules
 
-returns : tie.Need-returns
-returns c = (turned_at c.before.if1.true (c.passed.ensures (line_of c.before.before.before.before.before.args.asked) c.before.before.before.before.before.args.out.now), c.before.before.before.before.before.requires.0)
+returns : tie.Need-returns-then-inside
+returns c = (turned_at c.if-inside.true (c.passed.ensures (line_of c.args.asked) c.args.out.now), c.requires.0)
 
-answer-lines-requires : tie.Need-answer-lines-requires
+answer-lines-requires : tie.Need-answer_lines-p-requires
 answer-lines-requires c κs = search rules
 
-same_length : tie.Need-same-length
+same_length : tie.Need-shape_of-ws-then-p-gt0
 same_length c = search rules
 
-same-length-2 : tie.Need-same-length-2
+same-length-2 : tie.Need-shape_of-out-then-p-gt0
 same-length-2 c = search rules
 
-returns-2 : tie.Need-returns-2
-returns-2 c = (turned_at c.before.before.before.before.before.before.before.before.before.if1.false (turned_lines (line_of c.before.before.before.before.before.before.before.before.before.before.before.before.before.args.asked) c.before.before.before.before.before.before.answer-lines.ensures.0 c.before.before.before.before.before.before.before.before.before.before.before.before.before.args.ended (omega arith)), c.before.before.before.before.before.before.answer-lines.ensures.1)
+returns-2 : tie.Need-returns-then-p-gt0
+returns-2 c = (turned_at c.if-inside.false (turned_lines (line_of c.args.asked) c.answer_lines-p.ensures.0 c.args.ended (omega arith)), c.answer_lines-p.ensures.1)
 
-rest-of-requires : tie.Need-rest-of-requires
-rest-of-requires c κs = no_lines (line_of c.before.before.before.before.before.before.before.before.before.before.before.before.before.args.asked) c.before.before.before.before.before.before.answer-lines.ensures.0 (omega (arith, c.if2.false)) (omega (arith, c.before.before.before.before.before.before.before.before.before.before.before.before.before.requires.1))
+rest-of-requires : tie.Need-rest_of-requires
+rest-of-requires c κs = no_lines (line_of c.args.asked) c.answer_lines-p.ensures.0 (omega (arith, c.if-p-gt0.false)) (omega (arith, c.requires.1))
 
-enum_told : tie.Need-enum-told
+enum_told : tie.Need-enum_told-1
 enum_told c = search rules
 
-answer-line-requires : tie.Need-answer-line-requires
+answer-line-requires : tie.Need-answer_line-n-requires
 answer-line-requires c κs = search rules
 
-enum-told-2 : tie.Need-enum-told-2
+enum-told-2 : tie.Need-enum_told-in-Long
 enum-told-2 c = search rules
 
-answer-line-requires-2 : tie.Need-answer-line-requires-2
+answer-line-requires-2 : tie.Need-answer_line-n-requires-in-Long
 answer-line-requires-2 c κs = search rules
 
-enum-told-3 : tie.Need-enum-told-3
+enum-told-3 : tie.Need-enum_told-in-More
 enum-told-3 c = search rules
 
-enum-told-4 : tie.Need-enum-told-4
+enum-told-4 : tie.Need-enum_told-in-Nothing
 enum-told-4 c = search rules
 
-same-length-3 : tie.Need-same-length-3
+same-length-3 : tie.Need-shape_of-ws-in-Last
 same-length-3 c = search rules
 
-same-length-4 : tie.Need-same-length-4
+same-length-4 : tie.Need-shape_of-out-in-Last
 same-length-4 c = search rules
 
-returns-3 : tie.Need-returns-3
-returns-3 c = (turned_at c.before.before.before.before.before.before.before.before.before.before.before.before.before.before.before.before.before.before.before.if1.false (turned_last c.before.before.before.before.before.before.before.before.before.before.before.before.before.before.before.before.before.before.before.before.before.before.before.args.asked c.before.before.before.before.answer-line.ensures.0 (subst (Resting c.before.before.before.before.before.before.before.before.before.before.before.before.before.before.before.before.before.before.before.before.before.before.before.args.text.now c.before.before.before.before.before.before.before.before.before.before.before.before.before.before.before.before.before.before.before.before.before.before.before.args.ended) c.before.before.before.before.before.before.before.enum_told.given.1 c.before.before.before.before.before.before.before.before.before.rest_of.ensures)), c.before.before.before.before.answer-line.ensures.1)
+returns-3 : tie.Need-returns-in-Last
+returns-3 c = (turned_at c.if-inside.false (turned_last c.args.asked c.answer_line-n.ensures.0 (subst (Resting c.args.text.now c.args.ended) c.in-Last.is c.rest_of.ensures)), c.answer_line-n.ensures.1)
 
-same-length-5 : tie.Need-same-length-5
+same-length-5 : tie.Need-shape_of-ws-in-Long
 same-length-5 c = search rules
 
-same-length-6 : tie.Need-same-length-6
+same-length-6 : tie.Need-shape_of-out-in-Long
 same-length-6 c = search rules
 
-returns-4 : tie.Need-returns-4
-returns-4 c = (turned_at c.before.before.before.before.before.before.before.before.before.before.before.before.before.before.before.before.before.before.before.if1.false (turned_long c.before.before.before.before.before.before.before.before.before.before.before.before.before.before.before.before.before.before.before.before.before.before.before.args.asked c.before.before.before.before.answer-line2.ensures.0 (subst (Resting c.before.before.before.before.before.before.before.before.before.before.before.before.before.before.before.before.before.before.before.before.before.before.before.args.text.now c.before.before.before.before.before.before.before.before.before.before.before.before.before.before.before.before.before.before.before.before.before.before.before.args.ended) c.before.before.before.before.before.before.before.enum-told2.given.1 c.before.before.before.before.before.before.before.before.before.rest_of.ensures)), c.before.before.before.before.answer-line2.ensures.1)
+returns-4 : tie.Need-returns-in-Long
+returns-4 c = (turned_at c.if-inside.false (turned_long c.args.asked c.answer_line-n-in-Long.ensures.0 (subst (Resting c.args.text.now c.args.ended) c.in-Long.is c.rest_of.ensures)), c.answer_line-n-in-Long.ensures.1)
 
-same-length-7 : tie.Need-same-length-7
+same-length-7 : tie.Need-shape_of-ws-in-More
 same-length-7 c = search rules
 
-same-length-8 : tie.Need-same-length-8
+same-length-8 : tie.Need-shape_of-out-in-More
 same-length-8 c = search rules
 
-returns-5 : tie.Need-returns-5
-returns-5 c = (turned_at c.before.before.before.before.before.before.before.before.before.before.before.before.if1.false (turned_more (line_of c.before.before.before.before.before.before.before.before.before.before.before.before.before.before.before.before.args.asked) _ (subst (Resting c.before.before.before.before.before.before.before.before.before.before.before.before.before.before.before.before.args.text.now c.before.before.before.before.before.before.before.before.before.before.before.before.before.before.before.before.args.ended) c.enum-told3.given.1 c.before.before.rest_of.ensures)), c.before.before.before.before.before.before.before.before.before.answer-lines.ensures.1)
+returns-5 : tie.Need-returns-in-More
+returns-5 c = (turned_at c.if-inside.false (turned_more (line_of c.args.asked) _ (subst (Resting c.args.text.now c.args.ended) c.in-More.is c.rest_of.ensures)), c.answer_lines-p.ensures.1)
 
-same-length-9 : tie.Need-same-length-9
+same-length-9 : tie.Need-shape_of-ws-in-Nothing
 same-length-9 c = search rules
 
-same-length-10 : tie.Need-same-length-10
+same-length-10 : tie.Need-shape_of-out-in-Nothing
 same-length-10 c = search rules
 
-returns-6 : tie.Need-returns-6
-returns-6 c = (turned_at c.before.before.before.before.before.before.before.before.before.before.before.before.if1.false (turned_nothing (line_of c.before.before.before.before.before.before.before.before.before.before.before.before.before.before.before.before.args.asked) _ (subst (Resting c.before.before.before.before.before.before.before.before.before.before.before.before.before.before.before.before.args.text.now c.before.before.before.before.before.before.before.before.before.before.before.before.before.before.before.before.args.ended) c.enum-told4.given.1 c.before.before.rest_of.ensures)), c.before.before.before.before.before.before.before.before.before.answer-lines.ensures.1)
+returns-6 : tie.Need-returns-in-Nothing
+returns-6 c = (turned_at c.if-inside.false (turned_nothing (line_of c.args.asked) _ (subst (Resting c.args.text.now c.args.ended) c.in-Nothing.is c.rest_of.ensures)), c.answer_lines-p.ensures.1)
 
 pub turn_spec : {M : Type 1} → statement M
 turn_spec =
