@@ -1,23 +1,22 @@
 -- Demand 3: no text is judged differently by check and reading, whole or stopped after k operators.
-use Rattle.std.specs.Prelude.{if◌then◌else◌}
-use mathlib.Core.Path.{◌≡◌, refl, sym, ap, ◌∙◌, subst}
-use mathlib.Core.Bool.{Bool, true, false, ◌&&◌, ◌||◌, not}
+use mathlib.Core.Path.{◌≡◌, refl, ap}
+use mathlib.Core.Bool.{Bool, true, false, ◌||◌, not}
 use mathlib.Core.List.{List, [], ◌∷◌, ◌++◌, map, reverse, reverse_aux}
 use mathlib.Core.Option.{Option, some, none}
-use Prim.Native.Nat.{ℕ, zero, suc, ◌+◌, ◌*◌, ◌-◌, ◌≤◌, ◌<◌}
+use Prim.Native.Nat.{ℕ, zero, suc, ◌+◌, ◌*◌, ◌-◌}
 use native.Mathlib.Omega.{arith}
-use lib.Dec.{T, eqb, leb, leb-zero, leb→le, le→leb, not_T}
+use lib.Dec.{T, leb, leb-zero, leb→le, le→leb, not_T}
 use lib.ListN.{length}
-use Rattle.definition.specs.Base.{Name, digit, given, Out, ok, refused, Step, Done, ret, refuse, and_then, ◌>>=◌, ◌>>◌}
+use Rattle.definition.specs.Base.{Name, digit, given, Out, ok, refused, Done}
 use Rattle.definition.specs.Text.{Text, Symbol, suffix_text, ill_formed, split}
-use Rattle.definition.specs.Words.{Identified, identifier}
+use Rattle.definition.specs.Words.{identifier}
 use Rattle.definition.specs.Kind as K
 use Rattle.definition.specs.Kind.{Entry, entry}
 use Rattle.definition.specs.Node.{Node, Identifier, kind, size, count, view, entry_of}
 use Rattle.definition.specs.Print.{print}
 use Rattle.definition.specs.Operators as Op
 use Rattle.definition.specs.Budget as B
-use Rattle.definition.specs.Machine.{Machine, fresh, spend, know, remember, push}
+use Rattle.definition.specs.Machine.{fresh}
 use Rattle.definition.specs.Perform.{Demangler, Run, perform}
 use Rattle.definition.specs.Shape.{Shapes, Check, kind_of, row, run_row}
 use Rattle.definition.specs.Calls.{Answer, refusal, accepted, within, good_ceiling, admit, reading_needs, check_needs, symbol, whole_text, End, ran, stopped, then_run, turn, turns, ended, all_turns, single, finished, entry_numbers}
@@ -27,7 +26,7 @@ use Rattle.definition.specs.Alike.{enough, WholeAlike, Demand3}
 use Rattle.definition.proofs.SameText.{passed, failed}
 use Rattle.definition.proofs.Simulation.{Filled, Inv, shapes, Sound, Sim, Any, itself, bind, ret_sim, refuse_sim, spend_sim, know_sim, remember_sim, push_sim}
 use Rattle.definition.proofs.OperatorsAlike.{perform_sim}
-use Rattle.definition.proofs.WordsAlike.{Agree, agree_itself, FilledWords, identified_as, identifier_alike}
+use Rattle.definition.proofs.WordsAlike.{Agree, agree_itself, identifier_alike}
 
 -- TURNS
 module _ (N : ℕ) where

@@ -1,15 +1,15 @@
 -- Each operator, by its row of the table, has the same effect on the machine of the check as on the
 -- machine of trees.
 use Rattle.std.specs.Prelude.{if◌then◌else◌}
-use mathlib.Core.Path.{◌≡◌, refl, sym, ap, ◌∙◌, subst}
-use mathlib.Core.Bool.{Bool, true, false, ◌&&◌, ◌||◌, not}
-use mathlib.Core.List.{List, [], ◌∷◌, ◌++◌}
+use mathlib.Core.Path.{◌≡◌, refl, ◌∙◌}
+use mathlib.Core.Bool.{Bool, true, false}
+use mathlib.Core.List.{List, [], ◌∷◌}
 use mathlib.Core.Option.{Option, some, none}
-use Prim.Native.Nat.{ℕ, zero, suc, ◌+◌, ◌*◌, ◌-◌}
+use Prim.Native.Nat.{ℕ, ◌+◌, ◌*◌}
 use Prim.Native.String.{String}
 use native.Mathlib.Omega.{arith}
-use lib.Dec.{T, eqb}
-use Rattle.definition.specs.Base.{Name, bytes, given, Out, ok, refused, Step, Done, ret, refuse, and_then, ◌>>=◌, ◌>>◌, Late, good, bad, judge}
+use lib.Dec.{eqb}
+use Rattle.definition.specs.Base.{Name, bytes, given, Done, ret, ◌>>=◌, ◌>>◌, Late, good, bad, judge}
 use Rattle.definition.specs.Text.{Param}
 use Rattle.definition.specs.Kind as K
 use Rattle.definition.specs.Kind.{Entry, entry}
@@ -23,7 +23,7 @@ use Rattle.definition.specs.Perform as R
 use Rattle.definition.specs.Perform.{Run}
 use Rattle.definition.specs.Shape as C
 use Rattle.definition.specs.Shape.{Check, Leaves, Taken, taken, plain, left, leave, run_row, row}
-use Rattle.definition.proofs.Simulation.{Good, GoodIf, IsProtocol, Members, Sim, Any, itself, dropped, entry_if, tally, UnderSignature, bind, assoc, ret_sim, refuse_sim, if_sim, judge_sim, spend_sim, wrap_sim, remember_sim, recall_sim, push_sim, push_copies_sim, rounds_sim, pop_if_sim, pop_sim, try_sim, took_sim, pop_name_sim, context_sim, params_by_entry, protocol_sim, side_sim, elements_sim, members_sim, arguments_sim, requirements_sim, labels_sim, under_signature_sim}
+use Rattle.definition.proofs.Simulation.{Good, Sim, Any, itself, bind, assoc, ret_sim, refuse_sim, if_sim, judge_sim, spend_sim, wrap_sim, remember_sim, recall_sim, push_sim, push_copies_sim, rounds_sim, pop_if_sim, try_sim, took_sim, pop_name_sim, context_sim, params_by_entry, protocol_sim, side_sim, elements_sim, members_sim, arguments_sim, requirements_sim, labels_sim, under_signature_sim}
 
 -- an operator of the trees, and a row
 abbrev pub Alike : Run Done → Check Done → Type 0

@@ -1,7 +1,7 @@
 -- The terms of the definition: bytes, tables of letters, and steps that can be refused. Names are
--- those of swift_demangle.rs, with `-` for `_`; "lines" in a comment are lines of that file, "01"
+-- those of swift_demangle.rs; "lines" in a comment are lines of that file, "01"
 -- is document 01.
-use Rattle.std.specs.Prelude.{Bool, true, false, ◌&&◌, ◌||◌, not, List, [], ◌∷◌, ◌++◌, ℕ, zero, suc, ◌+◌, ◌/◌, ◌%◌, eqb, ltb, leb}
+use Rattle.std.specs.Prelude.{Bool, true, false, ◌&&◌, List, [], ◌∷◌, ℕ, zero, suc, ◌+◌, ◌/◌, ◌%◌, eqb, ltb, leb}
 use Rattle.std.proofs.Math.Option.{Option, some, none}
 use Prim.Native.Char.{Char, code}
 use Prim.Native.String.{String, [] as []ˢ, ◌∷◌ as ◌∷ˢ◌}

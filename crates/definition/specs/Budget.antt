@@ -1,6 +1,6 @@
 -- 01, "Budgets": steps, charged total and wraps, with their limits.
-use Rattle.std.specs.Prelude.{Bool, ℕ, suc, ◌+◌, ltb, leb, if◌then◌else◌}
-use Rattle.definition.specs.Base.{Out, ok, refused, Step, Done}
+use Rattle.std.specs.Prelude.{ℕ, suc, ◌+◌, ltb, leb, if◌then◌else◌}
+use Rattle.definition.specs.Base.{ok, refused, Step, Done}
 
 -- lines 597 to 601
 abbrev pub most_steps : ℕ

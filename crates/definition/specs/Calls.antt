@@ -1,10 +1,10 @@
 -- 01, "How each operation refuses": the answer of a call, the checks before a run, and the result
 -- at the end of a run. Reading and check share them.
-use Rattle.std.specs.Prelude.{Bool, true, false, ◌&&◌, ◌||◌, not, List, [], ◌∷◌, ◌++◌, ℕ, zero, suc, ◌+◌, ◌*◌, ◌-◌, eqb, ltb, leb, length, if◌then◌else◌}
+use Rattle.std.specs.Prelude.{Bool, true, false, ◌&&◌, not, List, [], ◌∷◌, ℕ, zero, suc, ◌+◌, ◌*◌, ◌-◌, ltb, leb, length, if◌then◌else◌}
 use Rattle.std.proofs.Math.Option.{Option, some, none}
 use Rattle.definition.specs.Machine.{opened as opened₀}
 use Rattle.definition.specs.Text.{opened as opened₁}
-use Rattle.definition.specs.Base.{given, Out, ok, refused, Step, Done, ret, refuse, and_then, ◌>>=◌, ◌>>◌}
+use Rattle.definition.specs.Base.{given, Out, ok, refused, Step, Done, ret, refuse, ◌>>◌}
 use Rattle.definition.specs.Text.{Text, Symbol, ill_formed, split}
 use Rattle.definition.specs.Kind.{Entry}
 use Rattle.definition.specs.Kind as K

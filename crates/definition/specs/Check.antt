@@ -1,10 +1,9 @@
 -- The shape check: words as a count, one turn by the table, and the four calls.
-use Rattle.std.specs.Prelude.{Bool, true, false, ◌&&◌, ◌||◌, not, List, [], ◌∷◌, ◌++◌, reverse, ℕ, zero, suc, ◌-◌, eqb, ltb, leb, length, if◌then◌else◌}
-use Rattle.std.proofs.Math.Option.{Option, some, none}
+use Rattle.std.specs.Prelude.{Bool, true, false, ◌&&◌, not, [], ◌∷◌, reverse, ℕ, zero, suc, ◌-◌, ltb, leb, length, if◌then◌else◌}
 use Prim.Native.Char.{code}
 use Rattle.definition.specs.Shape.{opened as opened₀}
 use Rattle.definition.specs.Calls.{opened as opened₁}
-use Rattle.definition.specs.Base.{is, digit, lower, upper, Out, ok, refused, Step, Done, ret, refuse, unless, and_then, ◌>>=◌, ◌>>◌}
+use Rattle.definition.specs.Base.{is, digit, lower, upper, ok, refused, Done, ret, refuse, unless, ◌>>=◌, ◌>>◌}
 use Rattle.definition.specs.Text.{Text, Lex, Symbol, next_if}
 use Rattle.definition.specs.Words.{most_words, starts, literal, is_empty}
 use Rattle.definition.specs.Kind as K

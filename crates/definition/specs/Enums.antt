@@ -2,7 +2,7 @@
 -- document 01's number and values of an answer. What follows them (from `nominal_kind` on) is FOR
 -- CODE ONLY: which operator of specs/Operators a case of the code's enums means, so that the
 -- contracts of the crates can name it.
-use Rattle.std.specs.Prelude.{Bool, true, false, ℕ}
+use Rattle.std.specs.Prelude.{true, false, ℕ}
 use Rattle.std.proofs.Math.Option.{some, none}
 use Prim.Native.String.{String}
 use Rattle.definition.specs.Base.{bytes, good, bad}
@@ -23,12 +23,9 @@ use Rattle.definition.specs.declared.Subject.{Subject}
 use Rattle.definition.specs.declared.Subject.TheVariants.{OfParam, OfStack, OfMember}
 use Rattle.definition.specs.declared.Constraint.{Constraint}
 use Rattle.definition.specs.declared.Constraint.TheVariants.{Conforms, Superclass, SameType, Layout}
-use Rattle.definition.specs.declared.Accessor.{Accessor}
 use Rattle.definition.specs.declared.Accessor.TheVariants.{Itself, Named, Broken}
 use Rattle.definition.specs.declared.About.{About}
-use Rattle.definition.specs.declared.About.TheVariants as About
 use Rattle.definition.specs.declared.Operator.{Operator}
-use Rattle.definition.specs.declared.Operator.TheVariants as Operator
 
 -- 01, "How each operation refuses"
 unfoldable pub number : Refusal → ℕ

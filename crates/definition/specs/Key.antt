@@ -1,6 +1,6 @@
 -- 01, "The key": calls and their answers at N = 65,536, as tables. proofs/KeyHolds.antt has the
 -- theorems.
-use Rattle.std.specs.Prelude.{Bool, true, false, ◌&&◌, List, [], ◌∷◌, ℕ, ◌*◌, eqb, length}
+use Rattle.std.specs.Prelude.{Bool, true, ◌&&◌, List, [], ◌∷◌, ℕ, ◌*◌, eqb, length}
 use Prim.Native.String.{String}
 use Rattle.definition.specs.Reading.{opened as opened₀}
 use Rattle.definition.specs.Base.{bytes, same}

@@ -4,7 +4,7 @@ use Rattle.std.specs.Prelude.{Bool, true, List, [], ◌∷◌, ◌++◌, ℕ, su
 use Rattle.std.proofs.Math.Option.{Option, some, none}
 use Rattle.std.proofs.Math.ListN.{get_elem?}
 use Rattle.definition.specs.Budget.{opened as opened₀}
-use Rattle.definition.specs.Base.{given, is_some, Out, ok, refused, Step, Done, ret, and_then, ◌>>=◌, ◌>>◌}
+use Rattle.definition.specs.Base.{given, is_some, Out, ok, refused, Step, Done, ret, ◌>>=◌}
 use Rattle.definition.specs.Budget as B
 use Rattle.definition.specs.Budget.{Budget}
 

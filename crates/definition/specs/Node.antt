@@ -1,5 +1,5 @@
 -- 01, "Nodes": the tree of a name; its kind, size and count.
-use Rattle.std.specs.Prelude.{Bool, List, [], ℕ, suc, ◌+◌}
+use Rattle.std.specs.Prelude.{Bool, List, ℕ, suc, ◌+◌}
 use Rattle.std.proofs.Math.Option.{Option, some, none}
 use Rattle.definition.specs.Words.{opened as opened₀}
 use Rattle.definition.specs.Base.{Name}

@@ -6,8 +6,8 @@ use Rattle.std.proofs.Math.Option.{Option, some, none}
 use Prim.Native.Char.{Char, code}
 use Prim.Native.String.{String}
 use Rattle.definition.specs.Words.{opened as opened₀}
-use Rattle.definition.specs.Base.{Name, bytes, decimal, is, digit, lower, upper, pick, given, Out, ok, refused, Step, Done, ret, refuse, or_refuse, unless, and_then, ◌>>=◌, ◌>>◌, Late, good, bad}
-use Rattle.definition.specs.Text.{Text, Lex, Param, param, next, peek, next_if, natural, index, index_plus_one, depth_and_index, generic_param_index}
+use Rattle.definition.specs.Base.{Name, bytes, decimal, is, digit, lower, upper, pick, given, ok, refused, Done, ret, refuse, or_refuse, unless, ◌>>=◌, ◌>>◌, Late, good, bad}
+use Rattle.definition.specs.Text.{Lex, Param, param, next, peek, next_if, natural, index, index_plus_one, depth_and_index, generic_param_index}
 use Rattle.definition.specs.Node.{NominalKind, Class, Struct, Enum, Protocol, TypeAlias}
 use Rattle.definition.specs.Budget.{most_steps, most_wraps}
 

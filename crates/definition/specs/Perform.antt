@@ -1,15 +1,15 @@
 -- The effect of each operator on the machine of trees: `operator` (lines 726 to 786) and the
 -- functions below it, without their letters.
-use Rattle.std.specs.Prelude.{Bool, true, false, ◌&&◌, ◌||◌, not, List, [], ◌∷◌, ◌++◌, ℕ, zero, suc, ◌+◌, ◌*◌, eqb, if◌then◌else◌}
+use Rattle.std.specs.Prelude.{Bool, List, [], ◌∷◌, ℕ, zero, suc, ◌*◌, eqb, if◌then◌else◌}
 use Rattle.std.proofs.Math.Option.{Option, some, none}
 use Prim.Native.String.{String}
 use Rattle.definition.specs.Print.{opened as opened₀}
 use Rattle.definition.specs.Operators.{opened as opened₁}
 use Rattle.definition.specs.Machine.{opened as opened₂}
-use Rattle.definition.specs.Base.{Name, bytes, given, Out, ok, refused, Step, Done, ret, refuse, unless, and_then, ◌>>=◌, ◌>>◌, Late, judge}
+use Rattle.definition.specs.Base.{Name, bytes, given, Step, Done, ret, refuse, ◌>>=◌, ◌>>◌, Late, judge}
 use Rattle.definition.specs.Text.{Param}
 use Rattle.definition.specs.Kind as K
-use Rattle.definition.specs.Node.{NominalKind, Enum, Protocol, Labels, Node, Nodes, nil, cons, Identifier, Module, Nominal, GenericParam, DependentMember, Tuple, FunctionType, GenericType, GenericSignature, ConformanceRequirement, SameTypeRequirement, ProtocolList, Metatype, InOut, BoundGeneric, Function, Variable, Accessor, Initializer, Deinitializer, VariableInitializer, Static, Record, Conformance, ProtocolWitness, ValueWitness, EmptyList, FirstElementMarker, VariadicMarker, Throws, Async, LazyWitness, AssociatedConformance, kind, size, count, name_of, inner_of, member_of}
+use Rattle.definition.specs.Node.{NominalKind, Enum, Protocol, Labels, Node, Nodes, nil, cons, Module, Nominal, GenericParam, DependentMember, Tuple, FunctionType, GenericType, GenericSignature, ConformanceRequirement, SameTypeRequirement, ProtocolList, Metatype, InOut, BoundGeneric, Function, Variable, Accessor, Initializer, Deinitializer, VariableInitializer, Static, Record, Conformance, ProtocolWitness, ValueWitness, EmptyList, FirstElementMarker, VariadicMarker, Throws, Async, LazyWitness, AssociatedConformance, kind, size, count, name_of, inner_of, member_of}
 use Rattle.definition.specs.Operators as Op
 use Rattle.definition.specs.Budget as B
 use Rattle.definition.specs.Machine as M

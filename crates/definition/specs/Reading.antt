@@ -2,15 +2,15 @@
 use Rattle.std.specs.Prelude.{Bool, true, false, List, [], ◌∷◌, ◌++◌, map, reverse, ℕ}
 use Rattle.definition.specs.Perform.{opened as opened₀}
 use Rattle.definition.specs.Calls.{opened as opened₁}
-use Rattle.definition.specs.Base.{Name, digit, Out, Done, refuse, and_then, ◌>>◌}
-use Rattle.definition.specs.Text.{Text, Lex, Symbol, suffix_text}
+use Rattle.definition.specs.Base.{Name, digit, Done, refuse, ◌>>◌}
+use Rattle.definition.specs.Text.{Text, Symbol, suffix_text}
 use Rattle.definition.specs.Words.{identifier}
 use Rattle.definition.specs.Kind as K
-use Rattle.definition.specs.Node.{Node, Identifier, kind, entry_of}
+use Rattle.definition.specs.Node.{Identifier, kind, entry_of}
 use Rattle.definition.specs.Print.{print}
 use Rattle.definition.specs.Operators.{operator}
 use Rattle.definition.specs.Machine.{fresh, know, remember, push}
-use Rattle.definition.specs.Perform.{Demangler, Run, perform}
+use Rattle.definition.specs.Perform.{Run, perform}
 use Rattle.definition.specs.Calls.{Answer, accepted, within, admit, reading_needs, symbol, whole_text, then_run, turn, turns, ended, all_turns, symbol_kind, finished, entry_numbers}
 
 module _ (N : ℕ) where

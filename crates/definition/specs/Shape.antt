@@ -6,7 +6,7 @@ use Rattle.std.proofs.Math.Option.{Option, some, none}
 use Prim.Native.String.{String}
 use Rattle.definition.specs.Operators.{opened as opened₀}
 use Rattle.definition.specs.Machine.{opened as opened₁}
-use Rattle.definition.specs.Base.{given, Out, ok, refused, Step, Done, ret, refuse, and_then, ◌>>=◌, ◌>>◌, Late, good, bad, judge}
+use Rattle.definition.specs.Base.{given, Step, Done, ret, refuse, ◌>>=◌, ◌>>◌, Late, good, bad, judge}
 use Rattle.definition.specs.Kind as K
 use Rattle.definition.specs.Kind.{Entry, entry}
 use Rattle.definition.specs.Node.{nominal_kind}

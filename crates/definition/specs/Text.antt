@@ -1,9 +1,9 @@
 -- 01, "Text and cursor": numbers and indices, UTF-8, prefixes, `split`.
-use Rattle.std.specs.Prelude.{Bool, true, false, ◌&&◌, ◌||◌, not, List, [], ◌∷◌, ◌++◌, ℕ, zero, suc, ◌+◌, ◌*◌, ◌-◌, ◌^◌, eqb, ltb, leb, length, take, drop, if◌then◌else◌}
+use Rattle.std.specs.Prelude.{Bool, true, false, List, [], ◌∷◌, ◌++◌, ℕ, zero, suc, ◌+◌, ◌*◌, ◌-◌, ◌^◌, ltb, length, take, drop}
 use Rattle.std.proofs.Math.Option.{Option, some, none}
 use Prim.Native.String.{String}
 use Rattle.definition.specs.Base.{opened as opened₀}
-use Rattle.definition.specs.Base.{bytes, same, is, between, digit, Out, ok, refused, Step, ret, refuse, unless, and_then, ◌>>=◌, ◌>>◌}
+use Rattle.definition.specs.Base.{bytes, same, is, between, digit, ok, refused, Step, ret, unless, ◌>>=◌, ◌>>◌}
 
 -- The text from the cursor on. The Rust's cursor is `text` and `pos`
 abbrev pub Text : Type 0

@@ -1,10 +1,10 @@
 -- 01, "Words": the words of identifiers, and identifiers that use them again.
-use Rattle.std.specs.Prelude.{Bool, true, false, ◌&&◌, ◌||◌, not, List, [], ◌∷◌, ◌++◌, ℕ, zero, suc, ◌-◌, eqb, ltb, leb, length, take, drop, if◌then◌else◌}
-use Rattle.std.proofs.Math.Option.{Option, some, none}
+use Rattle.std.specs.Prelude.{Bool, true, false, ◌&&◌, not, List, [], ◌∷◌, ◌++◌, ℕ, zero, suc, ◌-◌, ltb, leb, length, take, drop, if◌then◌else◌}
+use Rattle.std.proofs.Math.Option.{some, none}
 use Prim.Native.Char.{code}
 use Rattle.std.proofs.Math.ListN.{get_elem?}
 use Rattle.definition.specs.Text.{opened as opened₀}
-use Rattle.definition.specs.Base.{Name, is, digit, lower, upper, Out, ok, refused, Step, ret, refuse, unless, and_then, ◌>>=◌, ◌>>◌}
+use Rattle.definition.specs.Base.{Name, is, digit, lower, upper, ok, refused, ret, refuse, unless, ◌>>=◌, ◌>>◌}
 use Rattle.definition.specs.Text.{Text, Lex, next_if, natural, well_formed}
 
 -- line 603
