@@ -16,9 +16,7 @@ use Rattle.definition.specs.Enums.{number}
 use Rattle.definition.specs.declared.Refusal.{Refusal}
 use Rattle.text_cursor.specs.declared.Cursor.{Cursor}
 use Rattle.text_cursor.specs.declared.Number.{Number}
-use Rattle.text_cursor.specs.declared.Number.TheVariants as Number
 use Rattle.text_cursor.specs.declared.ParamRead.{ParamRead}
-use Rattle.text_cursor.specs.declared.ParamRead.TheVariants as ParamRead
 
 -- the text from a place on begins with the byte there, or is empty
 pub front : (text : Text) (at : ℕ) → at < length text → drop at text ≡ get_or text at 0 ∷ drop (at + 1) text

@@ -10,11 +10,8 @@ use Rattle.definition.specs.declared.Param.{Param}
 use Rattle.text_cursor.specs.declared.Cursor.{Cursor}
 use Rattle.text_cursor.specs.declared.Taken.{Taken}
 use Rattle.text_cursor.specs.declared.Byte.{Byte}
-use Rattle.text_cursor.specs.declared.Byte.TheVariants as Byte
 use Rattle.text_cursor.specs.declared.Number.{Number}
-use Rattle.text_cursor.specs.declared.Number.TheVariants as Number
 use Rattle.text_cursor.specs.declared.ParamRead.{ParamRead}
-use Rattle.text_cursor.specs.declared.ParamRead.TheVariants as ParamRead
 
 -- the outcome is the number n, and c is the place in the text where the outcome's rest begins,
 -- `least` or later

@@ -16,7 +16,6 @@ use Rattle.definition.specs.Text.{Text, prefixes, prefix_of, before_dot, split_a
 use Rattle.text_cursor.specs.Each.{Each}
 use Rattle.text_symbols.specs.Symbol.{no_dot, Ends, Parts, SplitIs}
 use Rattle.text_symbols.specs.declared.Symbol.{Symbol}
-use Rattle.text_symbols.specs.declared.Symbol.TheVariants as Symbol
 use Rattle.text_cursor.proofs.Steps.{front, ended}
 
 -- t begins with the bytes p

@@ -5,9 +5,7 @@ use Rattle.definition.specs.Base.{is}
 use Rattle.definition.specs.Text as Text
 use Rattle.definition.specs.Text.{Text, before_dot}
 use Rattle.text_symbols.specs.declared.Prefixed.{Prefixed}
-use Rattle.text_symbols.specs.declared.Prefixed.TheVariants as Prefixed
 use Rattle.text_symbols.specs.declared.Symbol.{Symbol}
-use Rattle.text_symbols.specs.declared.Symbol.TheVariants as Symbol
 
 -- the length of the prefix
 abbrev pub PrefixIs : Option ℕ → Prefixed → Type 0

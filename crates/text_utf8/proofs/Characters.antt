@@ -13,7 +13,6 @@ use Rattle.definition.specs.Base.{between}
 use Rattle.definition.specs.Text.{Text, Utf8Row, utf8_row, utf8_rows, tails, second, by_row, character, ill_formed_from, ill_formed, well_formed}
 use Rattle.text_utf8.specs.Utf8.{row_at, Follows, Passed, below_80}
 use Rattle.text_utf8.specs.declared.Behind.{Behind}
-use Rattle.text_utf8.specs.declared.Behind.TheVariants as Behind
 use Rattle.text_cursor.specs.Each.{Each}
 use Rattle.text_cursor.proofs.Steps.{front, ended}
 

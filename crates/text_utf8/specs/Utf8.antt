@@ -3,11 +3,8 @@ use Rattle.std.specs.Prelude.{◌≡◌, Bool, List, ℕ, ◌≤◌, ◌<◌, lt
 use Rattle.std.proofs.Math.Option.{Option, some, none}
 use Rattle.definition.specs.Text.{Text, Utf8Row, utf8_row, utf8_rows, second, by_row}
 use Rattle.text_utf8.specs.declared.RowFound.{RowFound}
-use Rattle.text_utf8.specs.declared.RowFound.TheVariants as RowFound
 use Rattle.text_utf8.specs.declared.Behind.{Behind}
-use Rattle.text_utf8.specs.declared.Behind.TheVariants as Behind
 use Rattle.text_utf8.specs.declared.IllFormed.{IllFormed}
-use Rattle.text_utf8.specs.declared.IllFormed.TheVariants as IllFormed
 
 -- row i of a table; past its end, a row of zeros
 abbrev pub row_at : List Utf8Row → ℕ → Utf8Row

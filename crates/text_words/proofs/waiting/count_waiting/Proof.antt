@@ -3,7 +3,6 @@ use mathlib.Core.Path.{◌≡◌, sym, ap, ◌∙◌}
 use Prim.Native.Nat.{ℕ, ◌-◌, ◌≤◌}
 use native.Mathlib.Omega.{arith}
 use borrow.Author.Rules.{rules}
-use lib.ListN.{length}
 use Rattle.definition.specs.Check as C
 use Rattle.text_words.specs.Waits.{noted_from}
 use Rattle.text_words.proofs.waiting.NotedLater.{noted_none, literal_inside, noted_next}

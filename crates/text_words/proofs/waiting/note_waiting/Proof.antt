@@ -3,7 +3,6 @@ use mathlib.Core.Path.{◌≡◌, sym, ap, subst, ◌∙◌}
 use Prim.Native.Nat.{ℕ, ◌-◌, ◌≤◌}
 use native.Mathlib.Omega.{arith}
 use borrow.Author.Rules.{rules}
-use lib.ListN.{length}
 use Rattle.definition.specs.Words as W
 use Rattle.text_words.specs.Table.{table, Holds}
 use Rattle.text_words.specs.Waits.{noted_from}
