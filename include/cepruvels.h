@@ -4,9 +4,9 @@
  * `rt lib capi` proves the four calls of the reading and writes crates/capi/out/libcapi.a (x86-64
  * Linux). `rt lib capi_check` proves those of the shape check and writes
  * crates/capi_check/out/libcapi_check.a. Link the archive that has your calls, or both. They need
- * memcpy and memset of the C library and nothing else. They export the functions below and no other name, so that they
- * can be linked together with Swift's own runtime, whose libswiftCore.so exports a `swift_demangle`
- * with another signature.
+ * memcpy and memset of the C library and nothing else. They export the functions below and no other
+ * name, so that they can be linked together with Swift's own runtime, whose libswiftCore.so exports
+ * a `swift_demangle` with another signature.
  *
  * The calls allocate nothing, keep nothing from one call to the next and write only where this
  * comment says so. Any number of threads may call at the same time, each with its own memory. The
