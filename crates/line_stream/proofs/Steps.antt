@@ -10,7 +10,7 @@ use Rattle.definition.specs.Text.{Text}
 use Rattle.text_parts.specs.Copied.{part}
 use Rattle.text_parts.proofs.Parts.{part_length}
 use Rattle.line_forms.specs.Lines.{owed}
-use Rattle.line_buffers.specs.Buffers.{Goes, Turned, kept, due, Holds, after_read, after_write, Fetched, Filling, Filled, begins, fetched, Stepped}
+use Rattle.line_buffers.specs.Buffers.{Goes, Turned, kept, due, Holds, after_read, after_write, stops, Fetched, Filling, Filled, begins, fetched, Stepped}
 use Rattle.line_buffers.specs.declared.Next.{Next}
 use Rattle.line_buffers.specs.declared.Turn.{Turn}
 use Rattle.line_buffers.specs.declared.State.{State}
@@ -98,6 +98,19 @@ came_owed : (line : Text → List ℕ) {n : Next} {l l' : List ℕ} {b h : State
 came_owed line {n} {l} {l'} {b} {h} c u =
     ap (owed line b.inside) (sym (append_assoc (kept l b) (fetched n l' b h.end) u)) ∙ ap (λ (x : Text). owed line b.inside (x ++ u)) (sym c.joined) ∙ ap (λ (i : Bool). owed line i (kept l' h ++ u)) (sym c.inside)
 
+-- A FAILED READ
+failed_read : (b h : State) (x : Got) → h ≡ after_read b x → (h.next ≡ Next.Answer → ⊥) → h ≡ after_read b Got.Failed
+failed_read b h (Got.Bytes n) e k = absurd (k (ap (λ (s : State). s.next) e))
+failed_read b h Got.Ended e k = absurd (k (ap (λ (s : State). s.next) e))
+failed_read b h Got.Failed e k = e
+
+failed_as : (n : Next) (l l' : List ℕ) (b h : State) → b.next ≡ n → stops n ≡ false → Filling n l l' b h → (h.next ≡ Next.Answer → ⊥) → h ≡ after_read b Got.Failed
+failed_as Next.Read l l' b h q s f k = failed_read b h f.got f.is k
+failed_as Next.Answer l l' b h q s f k = absurd (k (ap (λ (x : State). x.next) f.1 ∙ q))
+failed_as Next.Done l l' b h q s f k = absurd (not-false s)
+failed_as Next.ReadFailed l l' b h q s f k = absurd (not-false s)
+failed_as Next.WriteFailed l l' b h q s f k = absurd (not-false s)
+
 -- THE STEP
 written_so : (w : Bool) (n m : Next) → after_write w n ≡ m → (m ≡ Next.WriteFailed → ⊥) → n ≡ m
 written_so true n m e k = e
@@ -120,6 +133,21 @@ module _ {l l' : List ℕ} {b h : State} (k : Holds l b) (f : Filled l l' b h) w
   in_buffer = (came k f).within
 
 module _ (line : Text → List ℕ) {l l' o' : List ℕ} {b h : State} (k : Holds l b) (f : Filled l l' b h) where
+  pub stepped_failed : stops b.next ≡ false → (h.next ≡ Next.Answer → ⊥) → Stepped line l l' o' b h
+  stepped_failed s j =
+      let e : h ≡ after_read b Got.Failed = failed_as b.next l l' b h refl s f.filling j in
+      let w : h.written ≡ 0 = ap (λ (x : State). x.written) e in
+      let n : h.next ≡ Next.ReadFailed = ap (λ (x : State). x.next) e in
+      record {
+        long = f.long;
+        holds = record { order = in_order k f; within = in_buffer k f; asks = λ q. let z : ◌≡◌ {A = ℕ} 0 1 = cc in absurd (omega arith) };
+        fits = omega arith;
+        owes = λ u _. came_owed line (came k f) u ∙ ap (λ (i : ℕ). take i o' ++ due line l' h u) (sym w);
+        ended = ended_as b.next l l' b h k refl f.filling;
+        onward = λ q. absurd (j q);
+        done = λ q. let z : ◌≡◌ {A = ℕ} 0 1 = cc in absurd (omega arith);
+      }
+
   module _ {t : Turn} (x : Turned line (kept l' h) h.inside h.ended o' t) where
     long_kept : length (kept l' h) ≡ h.end - h.from
     long_kept = part_length l' h.from h.end (in_buffer k f)
