@@ -27,8 +27,8 @@ part_drop l a k e h j =
     let i : length (take k (drop a l)) ≡ k = length-take-le k (drop a l) (omega (arith, length-drop a l)) in
     ap (drop k) s ∙ drop_at (take k (drop a l)) (take (e - (a + k)) (drop k (drop a l))) k i ∙ ap (take (e - (a + k))) (drop-drop k a l)
 
-not-false : true ≡ false → ⊥
-not-false e = let z : ◌≡◌ {A = ℕ} 0 1 = cc in omega arith
+not_false : true ≡ false → ⊥
+not_false e = let z : ◌≡◌ {A = ℕ} 0 1 = cc in omega arith
 
 -- AFTER A READ: what the buffer then holds
 record Came (n : Next) (l l' : List ℕ) (b h : State) : Type 0 where
@@ -87,7 +87,7 @@ came {l} {l'} {b} k f = came_as b.next k f.filling
 
 -- nothing is read after the end of the input
 ended_as : (n : Next) (l l' : List ℕ) (b h : State) → Holds l b → b.next ≡ n → Filling n l l' b h → b.ended ≡ true → (h.ended ≡ true) × (fetched n l' b h.end ≡ [])
-ended_as Next.Read l l' b h k q f e = absurd (not-false (sym e ∙ (k.asks q).0))
+ended_as Next.Read l l' b h k q f e = absurd (not_false (sym e ∙ (k.asks q).0))
 ended_as Next.Answer l l' b h k q f e = (ap (λ (x : State). x.ended) f.1 ∙ e, refl)
 ended_as Next.Done l l' b h k q f e = (ap (λ (x : State). x.ended) f.1 ∙ e, refl)
 ended_as Next.ReadFailed l l' b h k q f e = (ap (λ (x : State). x.ended) f.1 ∙ e, refl)
@@ -107,9 +107,9 @@ failed_read b h Got.Failed e k = e
 failed_as : (n : Next) (l l' : List ℕ) (b h : State) → b.next ≡ n → stops n ≡ false → Filling n l l' b h → (h.next ≡ Next.Answer → ⊥) → h ≡ after_read b Got.Failed
 failed_as Next.Read l l' b h q s f k = failed_read b h f.got f.is k
 failed_as Next.Answer l l' b h q s f k = absurd (k (ap (λ (x : State). x.next) f.1 ∙ q))
-failed_as Next.Done l l' b h q s f k = absurd (not-false s)
-failed_as Next.ReadFailed l l' b h q s f k = absurd (not-false s)
-failed_as Next.WriteFailed l l' b h q s f k = absurd (not-false s)
+failed_as Next.Done l l' b h q s f k = absurd (not_false s)
+failed_as Next.ReadFailed l l' b h q s f k = absurd (not_false s)
+failed_as Next.WriteFailed l l' b h q s f k = absurd (not_false s)
 
 -- THE STEP
 written_so : (w : Bool) (n m : Next) → after_write w n ≡ m → (m ≡ Next.WriteFailed → ⊥) → n ≡ m
