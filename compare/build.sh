@@ -2,8 +2,8 @@
 # to target/compare.
 #
 # RUST_SOURCE   the Rust source to compare with, unchanged and never committed
-# LIBCAPI       a folder with both archives of our calls; without it, those that `rt lib capi` and
-#               `rt lib capi_check` write are taken from crates/capi/out and crates/capi_check/out
+# LIBCAPI       a folder with both archives of our calls; without it, those that `rt lib` writes in
+#               crates/capi and crates/capi_check are taken from the out/ there
 # ORACLE        an instrumented copy of the Rust other than the one that instrument.py makes, built
 #               as a library; or `none`: without one
 root=$(cd "$here/.." && pwd)
@@ -41,7 +41,7 @@ capi() {
     local name folder
     for name in capi capi_check; do
         folder=${LIBCAPI:-$root/crates/$name/out}
-        [ -f "$folder/lib$name.a" ] || fail "no $folder/lib$name.a: run 'rt lib $name' first, or set LIBCAPI"
+        [ -f "$folder/lib$name.a" ] || fail "no $folder/lib$name.a: run 'rt lib' in crates/$name first, or set LIBCAPI"
         archives+=("$(cd "$folder" && pwd)/lib$name.a")
         link+=(-C "link-arg=${archives[-1]}")
     done

@@ -1,10 +1,10 @@
 /* Cepruvels for C: the calls of the crates `swift_demangle` (reading) and `swift_shape` (shape
  * check), as `capi` and `capi_check` export them.
  *
- * `rt lib capi` proves the four calls of the reading and writes crates/capi/out/libcapi.a (x86-64
- * Linux). `rt lib capi_check` proves those of the shape check and writes
- * crates/capi_check/out/libcapi_check.a. Link the archive that has your calls, or both. They need
- * memcpy and memset of the C library and nothing else. They export the functions below and no other
+ * `rt lib` in crates/capi proves the four calls of the reading and writes out/libcapi.a there
+ * (x86-64 Linux). `rt lib` in crates/capi_check proves those of the shape check and writes
+ * out/libcapi_check.a there. Link the archive that has your calls, or both. They need memcpy and
+ * memset of the C library and nothing else. They export the functions below and no other
  * name, so that they can be linked together with Swift's own runtime, whose libswiftCore.so exports
  * a `swift_demangle` with another signature.
  *

@@ -4,8 +4,10 @@
 usage: python3 tools/rename_goals.py NAMES CRATE
 
 NAMES is the names.json that `rt check --generated DIR --old-names` wrote for the crate, and CRATE its
-folder. A goal goes by its place among the arguments of `tie.spec`, a step by the record that a path
-leads to. What it cannot place is printed, and stays.
+folder. It turns Proof.antt and the files Proof/*.antt. A goal goes by its place among the arguments of
+`tie.spec`, a step by the record that a path leads to. Where today's goals are others, it goes by
+their names, leaves new ones to `search rules`, and drops the answer of a goal that is no longer
+asked. All of this is printed, and so is what it cannot place, which stays.
 """
 import glob
 import json

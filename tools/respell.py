@@ -7,8 +7,10 @@ FOLDER is the top of the repository (default: the folder above this script). A n
 repository's own if one of its .antt files declares it: a definition, a lemma, a field, a
 constructor, a binder. Names of the kit's library, names that the prover makes (goals, steps) and
 the names of goals that a Proof.antt answers stay. The script rewrites crates/*/{src,specs,proofs},
-must-fail/*.edit, and what stands in backticks in README.md and docs/. --list prints
-the table and writes nothing. Two names that would become one are reported, and stay.
+must-fail/*.edit (their comments too), and what stands in backticks in README.md and docs/ (a quoted
+text too, if it looks like such a name). --list prints the table and writes nothing. It reports a
+name of the kit's that is declared here too, which stays, and a name whose new spelling is declared
+already or is a parameter of a function, which is renamed: look at each.
 """
 import glob
 import os

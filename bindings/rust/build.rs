@@ -1,6 +1,6 @@
 //! Links libcapi.a and libcapi_check.a. CEPRUVELS_LIB names the folder that they are in; without it,
-//! those that `rt lib capi` and `rt lib capi_check` write are taken from ../../crates/capi/out and
-//! ../../crates/capi_check/out.
+//! those that `rt lib` writes in ../../crates/capi and ../../crates/capi_check are taken from the out/
+//! there.
 
 use std::path::PathBuf;
 
@@ -12,7 +12,7 @@ fn main() {
         println!("cargo:rustc-link-search=native={}", folder.display());
         let archive = folder.join(format!("lib{name}.a"));
         if !archive.is_file() {
-            println!("cargo:warning={} is not there: run 'rt lib {name}', or set CEPRUVELS_LIB", archive.display());
+            println!("cargo:warning={} is not there: run 'rt lib' in crates/{name}, or set CEPRUVELS_LIB", archive.display());
         }
         println!("cargo:rerun-if-changed={}", archive.display());
         println!("cargo:rustc-link-lib=static={name}");
