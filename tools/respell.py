@@ -22,7 +22,6 @@ WORD = re.compile(r"[^\s(){}.;,@\"«»\[\]\\`|]+")
 # Comments, strings and words, in this order.
 TOKEN = re.compile(r"(--|//)[^\n]*|\"(?:[^\"\\]|\\.)*\"|" + WORD.pattern)
 DASHED = re.compile(r"^[^\W\d_](?:[^\W_]|[_'′₀-₉])*(?:-[^\s-]+)+$")
-LETTERS = re.compile(r"[^\W\d_]")
 
 
 def read(path):
@@ -34,12 +33,6 @@ def files(top, *ends):
     for path in sorted(glob.glob(f"{top}/crates/**/*", recursive=True)):
         if "/out/" not in path and os.path.isfile(path) and path.endswith(ends):
             yield path
-
-
-def words(text):
-    for m in TOKEN.finditer(text):
-        if not m.group(1) and not m.group(0).startswith('"'):
-            yield m.group(0)
 
 
 # A declaration at the beginning of a line, or a field or binder: a name and a colon.
