@@ -15,7 +15,7 @@ use Rattle.definition.specs.Text.{Text, Symbol, prefixes, prefix_of, before_dot,
 use Rattle.text_utf8.specs.Utf8.{below_80}
 use Rattle.text_utf8.proofs.Characters.{character_ascii}
 use Rattle.text_utf8.proofs.Parts.{tail, never, Characters, characters, behind, take_characters}
-use Rattle.text_symbols.proofs.Parts.{prefix_here, prefix_later, before_front, split_none, split_some}
+use Rattle.text_symbols.proofs.Symbols.{prefix_here, prefix_later, before_front, split_none, split_some}
 
 -- THE PREFIX
 ascii : Text → Bool

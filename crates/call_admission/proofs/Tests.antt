@@ -15,15 +15,14 @@ use Rattle.definition.specs.Calls as Calls
 use Rattle.definition.specs.Calls.{refusal, good_ceiling, admit, symbol, whole_text}
 use Rattle.definition.specs.Enums.{number}
 use Rattle.definition.specs.declared.Refusal.{Refusal}
-use Rattle.definition.specs.declared.Refusal.TheVariants as Refusal
 use Rattle.definition.proofs.SameText.{passed, failed}
 use Rattle.machine.specs.declared.runs.Final.{Final}
-use Rattle.machine.specs.declared.runs.Final.TheVariants as Final
 use Rattle.text_symbols.specs.Symbol as Symbols
 use Rattle.call_admission.proofs.Bodies.{body_well_formed}
 use Rattle.call_admission.specs.Admits.{framed, Body, Refused, Frames, Admits}
-use Rattle.call_admission.specs.declared.Admitted.{Admitted}
-use Rattle.call_admission.specs.declared.Admitted.TheVariants as Admitted
+use Rattle.std.specs.Prelude.{Result, Ok, Err}
+use Rattle.text_symbols.specs.declared.Parts.{Parts}
+use Rattle.call_admission.specs.declared.Refused.{Refused as RefusedAt}
 
 -- 5
 whole : (t : Text) → whole_text t ≡ Symbols.symbol t 0 (length t)
@@ -51,6 +50,10 @@ module _ {what : Final} (t : Text) where
       inside = omega arith;
       encoded = ap Text.well_formed (take_all (length t - 0) t (omega arith)) ∙ w;
     })
+
+-- what is refused at the start of the text
+pub refused_start : {before : (Symbol → Calls.Answer) → Calls.Answer} {r : Refusal} (x : RefusedAt) → (x.refusal ≡ r) × (x.at ≡ 0) → Refused before r 0 → Refused before x.refusal x.at
+refused_start {before} x e h = subst (λ (y : Refusal). Refused before y x.at) (sym e.0) (subst (Refused before _) (sym e.1) h)
 
 -- 1 to 4, by the outcome of each test
 outcome : (ceiling long short : Bool) → Option ℕ → Calls.Answer → Calls.Answer
@@ -117,12 +120,12 @@ module _ (what : Final) (need N w : ℕ) (t : Text) where
         unfolding outcome
         passes h a = tested ceiling_is long_is short_is h a
 
-        pub well_formed : ill_formed t ≡ none → (r : Admitted) → Frames (framed what t) t r → Admits what need N w t r
-        well_formed h (Admitted.Body start end) b = (
+        pub well_formed : ill_formed t ≡ none → (r : Result Parts RefusedAt) → Frames (framed what t) t r → Admits what need N w t r
+        well_formed h (Ok p) b = (
           record { is = λ read. passes h (framed what t read) ∙ b.is read; order = b.order; inside = b.inside; encoded = b.encoded },
           record { small = small; long = long; short = short },
         )
-        well_formed h (Admitted.Refused r place) b = record { is = λ read. passes h (framed what t read) ∙ b.is read }
+        well_formed h (Err x) b = record { is = λ read. passes h (framed what t read) ∙ b.is read }
 
 -- what a call needs fits a number of 64 bits
 pub needed : (need N : ℕ) → need ≤ 64 → N ≤ 65536 → need * N ≤ 4194304

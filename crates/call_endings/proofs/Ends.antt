@@ -14,16 +14,13 @@ use Rattle.definition.specs.Calls as Calls
 use Rattle.definition.specs.Calls.{refusal, accepted, within, End, ran, stopped, ended}
 use Rattle.definition.specs.Enums.{number, values}
 use Rattle.definition.specs.declared.Answer.{Answer}
-use Rattle.definition.specs.declared.Answer.TheVariants as Answer
 use Rattle.definition.specs.declared.Counts.{Counts}
 use Rattle.definition.specs.declared.Refusal.{Refusal}
-use Rattle.definition.specs.declared.Refusal.TheVariants as Refusal
 use Rattle.definition.proofs.SameText.{passed, failed}
 use Rattle.machine.specs.Spent.{budget_of}
 use Rattle.machine.specs.declared.budget.Budget.{Budget}
 use Rattle.machine.specs.RunEnds.{Writing}
-use Rattle.machine.specs.declared.runs.Written.{Written}
-use Rattle.machine.specs.declared.runs.Written.TheVariants as Written
+use Rattle.std.specs.Prelude.{Option, Some, None}
 use Rattle.text_symbols.specs.Symbol as Symbols
 use Rattle.call_endings.specs.Answers.{Answers, Stacked}
 
@@ -63,9 +60,9 @@ module _ (b : B.Budget) (s out out' : List ℕ) (r : Answer) where
   past_answers l w v = answers_is (past (length out) b s l) (record { values = v; written = w })
 
   -- the numbers of a stack
-  pub stacked_answers : (w : Written) → Writing s out out' w → Stacked b w r → Answers (within (length out) (accepted b s)) out out' r
-  stacked_answers (Written.Numbers n) h v = written_answers n h.many h.within h.is v
-  stacked_answers Written.Past h v = past_answers h.past h.same v
+  pub stacked_answers : (w : Option ℕ) → Writing s out out' w → Stacked b w r → Answers (within (length out) (accepted b s)) out out' r
+  stacked_answers (Some n) h v = written_answers n h.many h.within h.is v
+  stacked_answers None h v = past_answers h.past h.same v
 
 -- THE BODY
 pub suffix_is : (text : Text) (end : ℕ) → drop end text ≡ take (length text - end) (drop end text)
@@ -98,9 +95,9 @@ pub counted : (b : Budget) {n : ℕ} {c : Counts} → c ≡ record { steps = b.s
 unfolding values
 counted b {n} e = ap (λ (x : Counts). values (Answer.Accepted x n)) e
 
-pub stacked_numbers : (b : Budget) {n : ℕ} {v : Written} (c : Counts) → v ≡ Written.Numbers n → c ≡ record { steps = b.steps; total = b.total; wraps = b.wraps } → Stacked (budget_of b) v (Answer.Accepted c n)
-stacked_numbers b {n} c q e = subst (λ (x : Written). Stacked (budget_of b) x (Answer.Accepted c n)) (sym q) (counted b e)
+pub stacked_numbers : (b : Budget) {n : ℕ} {v : Option ℕ} (c : Counts) → v ≡ Some n → c ≡ record { steps = b.steps; total = b.total; wraps = b.wraps } → Stacked (budget_of b) v (Answer.Accepted c n)
+stacked_numbers b {n} c q e = subst (λ (x : Option ℕ). Stacked (budget_of b) x (Answer.Accepted c n)) (sym q) (counted b e)
 
-pub stacked_past : (b : Budget) (v : Written) → v ≡ Written.Past → Stacked (budget_of b) v (Answer.Refused Refusal.Output 0)
+pub stacked_past : (b : Budget) (v : Option ℕ) → v ≡ None → Stacked (budget_of b) v (Answer.Refused Refusal.Output 0)
 unfolding values refusal number
-stacked_past b v q = subst (λ (x : Written). Stacked (budget_of b) x (Answer.Refused Refusal.Output 0)) (sym q) refl
+stacked_past b v q = subst (λ (x : Option ℕ). Stacked (budget_of b) x (Answer.Refused Refusal.Output 0)) (sym q) refl

@@ -10,13 +10,10 @@ use Rattle.definition.specs.Calls as Calls
 use Rattle.definition.specs.Calls.{refusal, within, admit}
 use Rattle.definition.specs.Enums.{values}
 use Rattle.definition.specs.declared.Answer.{Answer}
-use Rattle.definition.specs.declared.Answer.TheVariants as Answer
 use Rattle.definition.specs.declared.Refusal.{Refusal}
 use Rattle.machine.specs.declared.runs.Final.{Final}
 use Rattle.text_symbols.specs.Symbol as Symbols
-use Rattle.call_admission.specs.Admits.{framed, Body, Refused, Bounds, Admits}
-use Rattle.call_admission.specs.declared.Admitted.{Admitted}
-use Rattle.call_admission.specs.declared.Admitted.TheVariants as Admitted
+use Rattle.call_admission.specs.Admits.{framed, Body, Refused}
 use Rattle.machine.specs.Beyond.{Beyond, beyond_itself}
 use Rattle.call_endings.specs.Answers.{Answers}
 use Rattle.call_endings.proofs.Ends.{answers_is, refused_answers}
@@ -36,13 +33,6 @@ scratch_run need N n w w' m e h b = record {
 module _ (what : Final) (need N w : ℕ) (t : Text) where
   abbrev before : (Symbol → Calls.Answer) → Calls.Answer
   before read = admit need N w t (framed what t read)
-
-  -- after a match
-  pub was_body : (a : Admitted) {start end : ℕ} → a ≡ Admitted.Body start end → Admits what need N w t a → Body before t start end × Bounds need N w t
-  was_body a q h = subst (Admits what need N w t) q h
-
-  pub was_refused : (a : Admitted) {x : Refusal} {place : ℕ} → a ≡ Admitted.Refused x place → Admits what need N w t a → Refused before x place
-  was_refused a q h = subst (Admits what need N w t) q h
 
   -- the text is admitted, and what is read of its body is the answer
   pub entered : (read : Symbol → Calls.Answer) {start end : ℕ} {out out' : List ℕ} {r : Answer} → Body before t start end →

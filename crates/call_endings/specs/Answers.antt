@@ -5,8 +5,7 @@ use Rattle.definition.specs.Calls as Calls
 use Rattle.definition.specs.Calls.{refusal}
 use Rattle.definition.specs.Enums.{values}
 use Rattle.definition.specs.declared.Answer.{Answer}
-use Rattle.machine.specs.declared.runs.Written.{Written}
-use Rattle.machine.specs.declared.runs.Written.TheVariants as Written
+use Rattle.std.specs.Prelude.{ℕ, Option, Some, None}
 
 -- Number, place, counts and length are the definition's. What the definition writes is at the front
 -- of the output slice, and the rest of the slice is unchanged. A refusal writes nothing
@@ -20,6 +19,6 @@ pub record Measured (b : B.Budget) (n room : ℕ) (r : Answer) : Type 0 where
   pub fits : n ≤ room → values r ≡ record { number = 0; place = 0; steps = b.steps; total = b.total; wraps = b.wraps; length = n }
   pub past : room < n → values r ≡ (refusal 12 0).values
 
-abbrev pub Stacked : B.Budget → Written → Answer → Type 0
-Stacked b (Written.Numbers n) r = values r ≡ record { number = 0; place = 0; steps = b.steps; total = b.total; wraps = b.wraps; length = n }
-Stacked b Written.Past r = values r ≡ (refusal 12 0).values
+abbrev pub Stacked : B.Budget → Option ℕ → Answer → Type 0
+Stacked b (Some n) r = values r ≡ record { number = 0; place = 0; steps = b.steps; total = b.total; wraps = b.wraps; length = n }
+Stacked b None r = values r ≡ (refusal 12 0).values

@@ -8,7 +8,6 @@ ghost use Rattle.call_endings.specs.Answers.{Measured, Stacked};
 
 use definition::{Answer, Counts, Refusal};
 use machine::budget::Budget;
-use machine::runs::Written;
 
 pub fn counts(budget: Budget) -> Counts
     ensures { result ≡ record { steps = budget.steps; total = budget.total; wraps = budget.wraps } }
@@ -32,11 +31,11 @@ pub fn measured(budget: Budget, n: usize, room: usize) -> Answer
 }
 
 // The answer for what a stopped run wrote. Refusal 12: the stack exceeds the slice.
-pub fn stacked(budget: Budget, written: Written) -> Answer
+pub fn stacked(budget: Budget, written: Option<usize>) -> Answer
     ensures { Stacked (budget_of budget) written result }
 {
     match written {
-        Written::Numbers(n) => Answer::Accepted(counts(budget), n),
-        Written::Past => Answer::Refused(Refusal::Output, 0),
+        Some(n) => Answer::Accepted(counts(budget), n),
+        None => Answer::Refused(Refusal::Output, 0),
     }
 }

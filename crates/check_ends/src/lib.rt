@@ -9,35 +9,26 @@ ghost use Rattle.definition.specs.Shape as C;
 ghost use Rattle.check_entries.specs.Lies.{stack_of};
 ghost use Rattle.machine.specs.RunEnds.{kinds_of, Writing};
 
-use check_entries::State;
-use machine::runs::{Final, Written};
+use check_entries::Entries;
+use machine::runs::{Final, takes};
 
 // Whether exactly one entry is left, and its kind is accepted.
-pub fn single(ws: &[u32], st: State, what: Final) -> bool
-    requires { 3 * st.depth ≤ length ws.now }
-    ensures { result ≡ is_some (Calls.single C.kind_of (kinds_of what) (stack_of ws.now st.depth)) }
+pub fn single(entries: &Entries, what: Final) -> bool
+    requires { 3 * entries.now.state.depth ≤ length entries.now.ws.now }
+    ensures { result ≡ is_some (Calls.single C.kind_of (kinds_of what) (stack_of entries.now.ws.now entries.now.state.depth)) }
 {
-    let depth = st.depth;
-    if depth != 1 {
-        return false;
-    }
-    machine::runs::takes(what, ws[0])
+    entries.state.depth == 1 && takes(what, entries.ws[0])
 }
 
 // Writes the entries of the stack, three numbers each, in the order in which they were pushed.
-pub fn write_stack(ws: &[u32], st: State, out: &mut [u32]) -> Written
-    requires { 3 * st.depth ≤ length ws.now }
-    ensures { Writing (Calls.entry_numbers (reverse (stack_of ws.now st.depth))) out.old out.new result }
+pub fn write_stack(entries: &Entries, out: &mut [u32]) -> Option<usize>
+    requires { 3 * entries.now.state.depth ≤ length entries.now.ws.now }
+    ensures { Writing (Calls.entry_numbers (reverse (stack_of entries.now.ws.now entries.now.state.depth))) out.old out.new result }
 {
-    let depth = st.depth;
-    let n = 3 * depth;
+    let n = 3 * entries.state.depth;
     if out.len() < n {
-        return Written::Past;
+        return None;
     }
-    let mut j = 0;
-    while j < n {
-        out[j] = ws[j];
-        j += 1;
-    }
-    Written::Numbers(n)
+    out[..n].copy_from_slice(&entries.ws[..n]);
+    Some(n)
 }

@@ -1,3 +1,4 @@
 pub mod Top
 pub mod Steps
 pub mod Composites
+pub mod Written

@@ -14,10 +14,10 @@ use Rattle.definition.specs.Machine.{restack}
 use Rattle.definition.specs.Shape as C
 use Rattle.definition.specs.Shape.{Shapes, kind_of}
 use Rattle.definition.proofs.Room.{weigh, Sized}
-use Rattle.check_entries.specs.Lies.{entry_of, entry_at, stack_of, machine_of, load, Held}
+use Rattle.check_entries.specs.Lies.{entry_of, entry_at, stack_of, machine_of, load, Held, Lent}
 use Rattle.check_entries.specs.EntriesTaken.{Went}
 use Rattle.check_entries.specs.declared.Entry.{Entry}
-use Rattle.check_entries.specs.declared.State.{State}
+use Rattle.check_entries.specs.declared.Entries.{Entries}
 
 pub length_stack : (w : List ℕ) (d : ℕ) → length (stack_of w d) ≡ d
 unfolding stack_of
@@ -60,13 +60,21 @@ module _ (w : List ℕ) (d : ℕ) where
       let s : Sized (stack_of w (suc (k + d))) = subst (λ (n : ℕ). Sized (stack_of w n)) p h in
       omega (arith, z, s.0, drop_more (k + d) k refl s.1)
 
-pub drops : {w : List ℕ} {st : State} (u : State) (k : ℕ) → Held w st → u.depth + k ≤ st.depth → load w u + k ≤ load w st
-drops {w} {st} u k h l =
-    let q : st.depth ≡ (st.depth - u.depth) + u.depth = omega arith in
-    omega (arith, drop_more w u.depth st.depth (st.depth - u.depth) q h.sized)
+pub drops : {s : Entries} (t : Entries) (k : ℕ) → Held s → t.ws.now ≡ s.ws.now → t.state.depth + k ≤ s.state.depth → load t + k ≤ load s
+drops {s} t k h w l =
+    let q : s.state.depth ≡ (s.state.depth - t.state.depth) + t.state.depth = omega arith in
+    omega (arith, drop_more s.ws.now t.state.depth s.state.depth (s.state.depth - t.state.depth) q h.sized, ap (λ (x : List ℕ). weigh (stack_of x t.state.depth)) w)
 
-pub held_less : {w : List ℕ} {st : State} (u : State) → Held w st → u.depth ≤ st.depth → Held w u
-held_less {w} {st} u h l = record { inside = omega (arith, h.inside); sized = sized_less w u.depth st.depth l h.sized; light = omega (arith, h.light, weigh_less w u.depth st.depth l) }
+pub held_less : {s t : Entries} → Held s → t.ws.now ≡ s.ws.now → t.state.depth ≤ s.state.depth → Held t
+held_less {s} {t} h w l = record {
+  inside = omega (arith, h.inside, ap (λ (x : List ℕ). length x) w);
+  sized = subst (λ (x : List ℕ). Sized (stack_of x t.state.depth)) (sym w) (sized_less s.ws.now t.state.depth s.state.depth l h.sized);
+  light = omega (arith, h.light, weigh_less s.ws.now t.state.depth s.state.depth l, ap (λ (x : List ℕ). weigh (stack_of x t.state.depth)) w);
+}
+
+-- what was not written weighs the same
+pub lighter : (s t : Entries) → t.ws.now ≡ s.ws.now → t.state.depth ≤ s.state.depth → load t ≤ load s
+lighter s t w l = omega (arith, weigh_less s.ws.now t.state.depth s.state.depth l, ap (λ (x : List ℕ). weigh (stack_of x t.state.depth)) w)
 
 -- TESTS OF THE TOP
 module _ (want : ℕ → Bool) (s : Shapes) where
@@ -109,40 +117,52 @@ pub pop_other : (want : ℕ → Bool) (s : Shapes) {t : Shapes} → C.try want s
 unfolding M.try M.pop_if
 pop_other want s {t} q = pop_none want s s.stack t q
 
-module _ (w : List ℕ) (st : State) (want : ℕ → Bool) where
-  pub none_below : st.depth ≡ 0 → Went (C.try want) w st 0 0 none st
-  unfolding M.try stack_of
-  none_below z = record { is = λ N. try_empty want (machine_of w N st) (stack_of w st.depth) (ap (stack_of w) z); depth = omega arith; lighter = omega arith; seen = refl; total = refl }
+pub same_lent : {s : Entries} → Lent s s
+same_lent = record { name = refl; ceiling = refl }
 
-  module _ (e : Entry) (t : ℕ) (p : st.depth ≡ suc t) (q : entry_of e ≡ entry_at w t) where
-    begins : stack_of w st.depth ≡ entry_of e ∷ stack_of w t
-    begins = top w st.depth t p ∙ ap (λ (x : K.Entry). x ∷ stack_of w t) (sym q)
+-- the entries without the top one
+abbrev pub less : Entries → ℕ → Entries
+less s t = record s { state = record s.state { depth = t } }
 
-    pub other_top : want e.kind ≡ false → Went (C.try want) w st 0 0 none st
-    unfolding M.try
-    other_top h = record { is = λ N. try_other want (machine_of w N st) (stack_of w st.depth) (entry_of e) (stack_of w t) begins h; depth = omega arith; lighter = omega arith; seen = refl; total = refl }
+module _ (s : Entries) (want : ℕ → Bool) where
+  stays_none : M.try_from kind_of want (stack_of s.ws.now s.state.depth) (machine_of s) ≡ ok none (machine_of s) → Went (C.try want) s s 0 0 none
+  unfolding M.try
+  stays_none q = record { is = q; depth = omega arith; lighter = omega arith; seen = refl; total = refl; unwritten = refl; lent = same_lent }
 
-    pub this_top : want e.kind ≡ true → Went (C.try want) w st 1 e.size (some (entry_of e)) (record { budget = st.budget; depth = t; seen = st.seen; words = st.words })
+  pub none_below : s.state.depth ≡ 0 → Went (C.try want) s s 0 0 none
+  unfolding stack_of
+  none_below z = stays_none (try_empty want (machine_of s) _ (ap (stack_of s.ws.now) z))
+
+  module _ (e : Entry) (t : ℕ) (p : s.state.depth ≡ suc t) (q : entry_of e ≡ entry_at s.ws.now t) where
+    begins : stack_of s.ws.now s.state.depth ≡ entry_of e ∷ stack_of s.ws.now t
+    begins = top s.ws.now s.state.depth t p ∙ ap (λ (x : K.Entry). x ∷ stack_of s.ws.now t) (sym q)
+
+    pub other_top : want e.kind ≡ false → Went (C.try want) s s 0 0 none
+    other_top h = stays_none (try_other want (machine_of s) _ (entry_of e) (stack_of s.ws.now t) begins h)
+
+    pub this_top : want e.kind ≡ true → Went (C.try want) s (less s t) 1 e.size (some (entry_of e))
     unfolding M.try weigh
     this_top h = record {
-      is = λ N. try_top want (machine_of w N st) (stack_of w st.depth) (entry_of e) (stack_of w t) begins h;
+      is = try_top want (machine_of s) _ (entry_of e) (stack_of s.ws.now t) begins h;
       depth = omega arith;
       lighter = omega (arith, ap weigh begins);
       seen = refl;
       total = refl;
+      unwritten = refl;
+      lent = record { name = refl; ceiling = refl };
     }
 
 -- what was on top is at least one node
 module _ (want : ℕ → Bool) (s : Shapes) where
   pop_size : (es : List K.Entry) (e : K.Entry) (t : Shapes) → Sized es → M.pop_from kind_of want es s ≡ ok e t → 1 ≤ e.size
   unfolding M.pop_from
-  pop_size [] e t z q = absurd (let x : ◌≡◌ {A = ℕ} 0 1 = cc in omega arith)
+  pop_size [] e t z q = absurd (cc)
   pop_size (x ∷ es) e t z q = go (want x.kind) q
     where
       go : (b : Bool) → (if b then ok x (restack es s) else refused 10) ≡ ok e t → 1 ≤ e.size
       go true q = let p : x ≡ e = cc in subst (λ (y : K.Entry). 1 ≤ y.size) p z.0
-      go false q = absurd (let y : ◌≡◌ {A = ℕ} 0 1 = cc in omega arith)
+      go false q = absurd (cc)
 
-pub popped_size : (want : ℕ → Bool) {w : List ℕ} {st u : State} {l m : ℕ} {e : Entry} → Held w st → Went (C.pop_if want) w st l m (entry_of e) u → 1 ≤ e.size
+pub popped_size : (want : ℕ → Bool) {s t : Entries} {l m : ℕ} {e : Entry} → Held s → Went (C.pop_if want) s t l m (entry_of e) → 1 ≤ e.size
 unfolding M.pop_if
-popped_size want {w} {st} {u} {l} {m} {e} h g = pop_size want (machine_of w 0 st) (stack_of w st.depth) (entry_of e) (machine_of w 0 u) h.sized (g.is 0)
+popped_size want {s} {t} {l} {m} {e} h g = pop_size want (machine_of s) (stack_of s.ws.now s.state.depth) (entry_of e) (machine_of t) h.sized g.is

@@ -1,8 +1,8 @@
 -- The meaning of a take of the code in the definition.
 use Rattle.definition.specs.Shape as C
+use Rattle.machine.specs.Kinds.{kind_of}
 use Rattle.machine.specs.Wanted.{want_of}
 use Rattle.check_entries.specs.declared.Take.{Take}
-use Rattle.check_entries.specs.declared.Take.TheVariants as Take
 
 abbrev pub take_of : Take → C.Take
 take_of Take.Wraps = C.wraps
@@ -10,7 +10,7 @@ take_of (Take.Node want) = C.a_node (want_of want)
 take_of Take.Name = C.a_name
 take_of Take.Context = C.a_context
 take_of Take.Protocol = C.a_protocol
-take_of (Take.Marker k) = C.marker k
+take_of (Take.Marker k) = C.marker (kind_of k)
 take_of Take.Qualifier = C.qualifier
 take_of Take.Params = C.params
 take_of Take.Result = C.result

@@ -1,15 +1,13 @@
 -- What writes to a workspace say about the definition's machine.
-use Rattle.std.specs.Prelude.{◌≡◌, List, ℕ, ◌+◌, ◌*◌, ◌≤◌, ◌<◌, length, get_or}
+use Rattle.std.specs.Prelude.{◌≡◌, List, ℕ, ◌+◌, ◌*◌, ◌≤◌, ◌<◌, length, get_or, Result, Ok, Err}
 use Rattle.definition.specs.Base.{ok, refused, Done}
 use Rattle.definition.specs.Shape.{Check}
 use Rattle.definition.specs.Enums.{number}
 use Rattle.definition.specs.declared.Refusal.{Refusal}
 use Rattle.machine.specs.Beyond.{Beyond}
-use Rattle.check_entries.specs.Lies.{machine_of, entry_of, entry_at}
+use Rattle.check_entries.specs.Lies.{machine_of, entry_of, entry_at, Lent}
 use Rattle.check_entries.specs.declared.Entry.{Entry}
-use Rattle.check_entries.specs.declared.State.{State}
-use Rattle.check_entries.specs.declared.stores.Step.{Step}
-use Rattle.check_entries.specs.declared.stores.Step.TheVariants as Step
+use Rattle.check_entries.specs.declared.Entries.{Entries}
 
 -- WRITING
 -- entry e was stored at place i of the workspace w
@@ -19,22 +17,33 @@ pub record Stored (w w₁ : List ℕ) (i : ℕ) (e : Entry) : Type 0 where
   pub below : (k : ℕ) → k < 3 * i → get_or w₁ k 0 ≡ get_or w k 0
   pub above : (k : ℕ) → 3 * i + 3 ≤ k → get_or w₁ k 0 ≡ get_or w k 0
 
--- the step ends with the machine of u in the workspace w₁
-pub record Wrote (f : Check Done) (N : ℕ) (w w₁ : List ℕ) (st u : State) : Type 0 where
-  pub is : f (machine_of w N st) ≡ ok tt (machine_of w₁ N u)
-  pub outside : Beyond 8 N w w₁
+-- an entry was stored, and the rest is unchanged
+pub record Storing (s t : Entries) (i : ℕ) (e : Entry) : Type 0 where
+  pub stored : Stored s.ws.now t.ws.now i e
+  pub state : t.state ≡ s.state
+  pub lent : Lent s t
 
-pub record Failed (f : Check Done) (N : ℕ) (w w₁ : List ℕ) (st : State) (r : Refusal) : Type 0 where
-  pub is : f (machine_of w N st) ≡ refused (number r)
-  pub outside : Beyond 8 N w w₁
+-- what the step may write: the first numbers of the lent workspace
+pub record Wrote (s t : Entries) : Type 0 where
+  pub outside : Beyond 8 s.ceiling s.ws.now t.ws.now
+  pub lent : Lent s t
 
-abbrev pub Performing : Check Done → (N : ℕ) → (w w₁ : List ℕ) → State → Step → Type 0
-Performing f N w w₁ st (Step.Done u) = Wrote f N w w₁ st u
-Performing f N w w₁ st (Step.Refused r) = Failed f N w w₁ st r
+-- the step ends with the machine of t
+pub record Did (f : Check Done) (s t : Entries) : Type 0 where
+  pub is : f (machine_of s) ≡ ok tt (machine_of t)
+  pub wrote : Wrote s t
+
+pub record Failed {A : Type 0} (f : Check A) (s t : Entries) (r : Refusal) : Type 0 where
+  pub is : f (machine_of s) ≡ refused (number r)
+  pub wrote : Wrote s t
+
+abbrev pub Performing : Check Done → (s t : Entries) → Result Done Refusal → Type 0
+Performing f s t (Ok u) = Did f s t
+Performing f s t (Err r) = Failed f s t r
 
 -- one more entry is remembered, and the rest of the state is unchanged
-pub record Remembered (f : Check Done) (N : ℕ) (w w₁ : List ℕ) (st u : State) : Type 0 where
-  pub wrote : Wrote f N w w₁ st u
-  pub depth : u.depth ≡ st.depth
-  pub budget : u.budget ≡ st.budget
-  pub seen : u.seen ≤ st.seen + 1
+pub record Remembered (f : Check Done) (s t : Entries) : Type 0 where
+  pub did : Did f s t
+  pub depth : t.state.depth ≡ s.state.depth
+  pub budget : t.state.budget ≡ s.state.budget
+  pub seen : t.state.seen ≤ s.state.seen + 1

@@ -1,31 +1,47 @@
-// The entries of the shape check in a lent workspace, which is only read here. An entry is taken
-// from the stack by decreasing the depth. Entry i is stored in the three numbers from 3 * i on:
-// kind, size and count.
+// The entries of the shape check in a lent workspace. Entry i is stored in the three numbers from
+// 3 * i on: kind, size and count. The entries of the stack begin at place 0, the remembered ones at
+// the ceiling.
 #![tactic(auto)]
 
 // Entries written to the workspace.
 pub mod stores;
 
-ghost use Rattle.std.specs.Prelude.{◌+◌, ◌*◌, ◌≤◌, length};
+ghost use Rattle.std.specs.Prelude.{◌≡◌, ◌+◌, ◌*◌, ◌≤◌, length};
 ghost use Rattle.definition.specs.Machine as M;
 ghost use Rattle.definition.specs.Shape as C;
-ghost use Rattle.check_entries.specs.Lies.{Held};
+ghost use Rattle.check_entries.specs.Lies.{entry_of, entry_at, Held, Fresh, Begun};
+ghost use Rattle.machine.specs.Kinds.{kind_of};
 ghost use Rattle.machine.specs.Wanted.{want_of};
-ghost use Rattle.check_entries.specs.EntriesTaken.{EntryAt, Trying, Popping, looked, Marking, Moving, Naming};
+ghost use Rattle.check_entries.specs.EntriesTaken.{Begins, Trying, Popping, looked, Marking, Moving, Naming};
 
 use definition::Refusal;
 use machine::budget::Budget;
-use machine::kinds::Want;
+use machine::kinds::{Kind, Want, is_context, wanted};
 
-#[derive(Clone, Copy)]
+#[derive(Clone, Copy, Debug, PartialEq, Eq)]
 pub struct Entry {
+    // Kept: the number of a kind, since the workspace may hold any number, and a stopped run writes
+    // it as it is.
     pub kind: u32,
     pub size: u32,
     pub count: u32,
 }
 
+impl Entry {
+    // Returns an entry that counts nothing.
+    pub fn new(kind: Kind, size: u32) -> Self
+        ensures { result ≡ record { kind = kind_of kind; size = size; count = 0 } }
+    {
+        Entry {
+            kind: kind as u32,
+            size,
+            count: 0,
+        }
+    }
+}
+
 // The counts, the numbers of entries on the stack and remembered, and the number of known words.
-#[derive(Clone, Copy)]
+#[derive(Clone, Copy, Debug, PartialEq, Eq)]
 pub struct State {
     pub budget: Budget,
     pub depth: usize,
@@ -33,57 +49,42 @@ pub struct State {
     pub words: usize,
 }
 
-// What an operator has taken so far: the sum of the sizes, what was counted, and whether there was
-// a signature.
-#[derive(Clone, Copy)]
-pub struct Taken {
-    pub size: usize,
-    pub count: usize,
-    pub signed: bool,
+impl State {
+    // Returns the state at the beginning of a run: nothing is on the stack or remembered.
+    pub fn new() -> Self
+        ensures { Fresh result }
+    {
+        State {
+            budget: Budget::new(),
+            depth: 0,
+            seen: 0,
+            words: 0,
+        }
+    }
 }
 
-// The top entry and the state without it, or nothing if it is of another kind.
-#[derive(Clone, Copy)]
-pub enum Tried {
-    Top(Entry, State),
-    Nothing,
-}
-
-#[derive(Clone, Copy)]
-pub enum Popped {
-    Top(Entry, State),
-    Refused(Refusal),
-}
-
-// Whether an entry was taken.
-#[derive(Clone, Copy)]
-pub struct Marked {
-    pub taken: bool,
-    pub next: State,
-}
-
-#[derive(Clone, Copy)]
-pub enum Moved {
-    To(State),
-    Refused(Refusal),
-}
-
-// What was taken, with the state after it.
-#[derive(Clone, Copy)]
-pub enum Taking {
-    Went(Taken, State),
-    Refused(Refusal),
+// The machine of the check: its entries in the lent workspace, of which the first 8 * ceiling
+// numbers are used.
+//
+// Kept: what holds of the entries (`Held`, and `Light`, `Roomy` and `Sound` of `check_perform`) is a
+// clause of the functions and no ghost field, since it changes within an operator: a node is
+// charged before it is pushed, and entries are taken one by one.
+#[derive(Drop)]
+pub struct Entries<'a> {
+    pub ws: &'a mut [u32],
+    pub ceiling: usize,
+    pub state: State,
 }
 
 // The takes of a row, as in the definition.
-#[derive(Clone, Copy)]
+#[derive(Clone, Copy, Debug, PartialEq, Eq)]
 pub enum Take {
     Wraps,
     Node(Want),
     Name,
     Context,
     Protocol,
-    Marker(u32),
+    Marker(Kind),
     Qualifier,
     Params,
     Result,
@@ -100,183 +101,151 @@ pub enum Take {
     PrintedAhead,
 }
 
-// The top
-
-// Returns the entry at a place.
-pub fn entry_at(ws: &[u32], i: usize) -> Entry
-    requires { 3 * i + 3 ≤ length ws.now }
-    ensures { EntryAt ws.now i result }
-{
-    Entry {
-        kind: ws[3 * i],
-        size: ws[3 * i + 1],
-        count: ws[3 * i + 2],
-    }
-}
-
-// Takes the top entry, if its kind is wanted.
-pub fn try_take(ws: &[u32], st: State, want: Want) -> Tried
-    requires { Held ws.now st }
-    ensures { Trying (C.try (want_of want)) ws.now st result }
-{
-    let depth = st.depth;
-    if depth == 0 {
-        return Tried::Nothing;
-    }
-    let top = depth - 1;
-    let e = entry_at(ws, top);
-    if machine::kinds::wanted(want, e.kind) {
-        let mut next = st;
-        next.depth = top;
-        return Tried::Top(e, next);
-    }
-    Tried::Nothing
-}
-
-// Takes the top entry, whose kind must be wanted.
-pub fn pop_if(ws: &[u32], st: State, want: Want) -> Popped
-    requires { Held ws.now st }
-    ensures { Popping (C.pop_if (want_of want)) ws.now st result }
-{
-    match try_take(ws, st, want) {
-        Tried::Top(e, next) => Popped::Top(e, next),
-        Tried::Nothing => Popped::Refused(Refusal::Stack),
-    }
-}
-
-// Removes the top entry, if its kind is wanted.
-pub fn took(ws: &[u32], st: State, want: Want) -> Marked
-    requires { Held ws.now st }
-    ensures { Marking (looked (want_of want)) ws.now st result }
-{
-    match try_take(ws, st, want) {
-        Tried::Top(_, next) => Marked { taken: true, next },
-        Tried::Nothing => Marked {
-            taken: false,
-            next: st,
-        },
-    }
-}
-
-// Takes the top entry, of any kind.
-pub fn pop(ws: &[u32], st: State) -> Popped
-    requires { Held ws.now st }
-    ensures { Popping (M.pop C.kind_of) ws.now st result }
-{
-    pop_if(ws, st, Want::Anything)
-}
-
-// What can represent one entry
-
-// Takes an identifier, whose name is used elsewhere.
-pub fn pop_name(ws: &[u32], st: State) -> Moved
-    requires { Held ws.now st }
-    ensures { Moving C.pop_name ws.now st result }
-{
-    match pop(ws, st) {
-        Popped::Top(e, next) => {
-            if e.kind == 0 {
-                Moved::To(next)
-            } else {
-                Moved::Refused(Refusal::Stack)
-            }
+impl<'a> Entries<'a> {
+    // Returns the machine at the beginning of a run, whatever the workspace holds.
+    pub fn new(ws: &'a mut [u32], ceiling: usize) -> Self
+        ensures { Begun ws.entry ceiling result }
+    {
+        Entries {
+            ws,
+            ceiling,
+            state: State::new(),
         }
-        Popped::Refused(r) => Moved::Refused(r),
     }
-}
 
-// Takes a context.
-pub fn context(ws: &[u32], st: State) -> Popped
-    requires { Held ws.now st }
-    ensures { Popping C.context ws.now st result }
-{
-    match pop(ws, st) {
-        Popped::Top(e, next) => {
-            if e.kind == 0 {
-                return Popped::Top(
-                    Entry {
-                        kind: 1,
-                        size: 1,
-                        count: 0,
-                    },
-                    next,
-                );
-            }
-            if machine::kinds::is_context(e.kind) {
-                return Popped::Top(e, next);
-            }
-            Popped::Refused(Refusal::Stack)
+    // Begins a turn: counts a step, and charges 1.
+    pub fn begin(&mut self) -> Result<(), Refusal>
+        ensures { Begins self.old self.new result }
+    {
+        self.state.budget = self.state.budget.step()?.charge(self.ceiling, 1)?;
+        Ok(())
+    }
+
+    // Returns the entry at a place.
+    pub fn entry_at(&self, i: usize) -> Entry
+        requires { 3 * i + 3 ≤ length self.now.ws.now }
+        ensures { entry_of result ≡ entry_at self.now.ws.now i }
+    {
+        Entry {
+            kind: self.ws[3 * i],
+            size: self.ws[3 * i + 1],
+            count: self.ws[3 * i + 2],
         }
-        Popped::Refused(r) => Popped::Refused(r),
     }
-}
 
-// Takes the protocol that is named by an identifier and the context below it.
-fn named_protocol(ws: &[u32], st: State) -> Popped
-    requires { Held ws.now st }
-    ensures { Naming ws.now st result }
-{
-    match context(ws, st) {
-        Popped::Top(c, next) => Popped::Top(
-            Entry {
-                kind: 5,
-                size: 1 + c.size,
-                count: 0,
-            },
-            next,
-        ),
-        Popped::Refused(r) => Popped::Refused(r),
-    }
-}
-
-// Takes a protocol.
-pub fn protocol(ws: &[u32], st: State) -> Popped
-    requires { Held ws.now st }
-    ensures { Popping C.protocol ws.now st result }
-{
-    match pop(ws, st) {
-        Popped::Top(e, next) => {
-            if e.kind == 5 {
-                return Popped::Top(e, next);
-            }
-            if e.kind == 0 {
-                return named_protocol(ws, next);
-            }
-            if e.kind != 15 {
-                return Popped::Refused(Refusal::Stack);
-            }
-            if e.count != 1 {
-                return Popped::Refused(Refusal::Stack);
-            }
-            Popped::Top(
-                Entry {
-                    kind: 5,
-                    size: e.size - 1,
-                    count: 0,
-                },
-                next,
-            )
+    // Takes the top entry, if its kind is wanted.
+    pub fn try_take(&mut self, want: Want) -> Option<Entry>
+        requires { Held self.old }
+        ensures { Trying (C.try (want_of want)) self.old self.new result }
+    {
+        if self.state.depth == 0 {
+            return None;
         }
-        Popped::Refused(r) => Popped::Refused(r),
+        let top = self.state.depth - 1;
+        let e = self.entry_at(top);
+        if !wanted(want, e.kind) {
+            return None;
+        }
+        self.state.depth = top;
+        Some(e)
     }
-}
 
-// Takes one side of a function type. The empty list represents the empty tuple.
-pub fn side(ws: &[u32], st: State) -> Popped
-    requires { Held ws.now st }
-    ensures { Popping C.side ws.now st result }
-{
-    let empty = took(ws, st, Want::Kind(30));
-    let next = empty.next;
-    if empty.taken {
-        return Popped::Top(
-            Entry {
-                kind: 9,
-                size: 1,
-                count: 0,
-            },
-            next,
-        );
+    // Takes the top entry, whose kind must be wanted.
+    pub fn pop_if(&mut self, want: Want) -> Result<Entry, Refusal>
+        requires { Held self.old }
+        ensures { Popping (C.pop_if (want_of want)) self.old self.new result }
+    {
+        self.try_take(want).ok_or(Refusal::Stack)
     }
-    pop_if(ws, next, Want::Type)
+
+    // Removes the top entry, if its kind is wanted.
+    pub fn took(&mut self, want: Want) -> bool
+        requires { Held self.old }
+        ensures { Marking (looked (want_of want)) self.old self.new result }
+    {
+        self.try_take(want).is_some()
+    }
+
+    // Takes the top entry, of any kind.
+    pub fn pop(&mut self) -> Result<Entry, Refusal>
+        requires { Held self.old }
+        ensures { Popping (M.pop C.kind_of) self.old self.new result }
+    {
+        self.pop_if(Want::Anything)
+    }
+
+    // Counts a wrap.
+    pub fn wrap(&mut self) -> Result<(), Refusal>
+        ensures { Moving M.wrap self.old self.new result }
+    {
+        self.state.budget = self.state.budget.wrap()?;
+        Ok(())
+    }
+
+    // What can represent one entry
+
+    // Takes an identifier, whose name is used elsewhere.
+    pub fn pop_name(&mut self) -> Result<(), Refusal>
+        requires { Held self.old }
+        ensures { Moving C.pop_name self.old self.new result }
+    {
+        let e = self.pop()?;
+        if e.kind != Kind::Identifier as u32 {
+            return Err(Refusal::Stack);
+        }
+        Ok(())
+    }
+
+    // Takes a context.
+    pub fn context(&mut self) -> Result<Entry, Refusal>
+        requires { Held self.old }
+        ensures { Popping C.context self.old self.new result }
+    {
+        let e = self.pop()?;
+        if e.kind == Kind::Identifier as u32 {
+            return Ok(Entry::new(Kind::Module, 1));
+        }
+        if !is_context(e.kind) {
+            return Err(Refusal::Stack);
+        }
+        Ok(e)
+    }
+
+    // Takes the protocol that is named by an identifier and the context below it.
+    fn named_protocol(&mut self) -> Result<Entry, Refusal>
+        requires { Held self.old }
+        ensures { Naming self.old self.new result }
+    {
+        let context = self.context()?;
+        Ok(Entry::new(Kind::Protocol, 1 + context.size))
+    }
+
+    // Takes a protocol.
+    pub fn protocol(&mut self) -> Result<Entry, Refusal>
+        requires { Held self.old }
+        ensures { Popping C.protocol self.old self.new result }
+    {
+        let e = self.pop()?;
+        if e.kind == Kind::Protocol as u32 {
+            return Ok(e);
+        }
+        if e.kind == Kind::Identifier as u32 {
+            return self.named_protocol();
+        }
+        if e.kind != Kind::ProtocolList as u32 || e.count != 1 {
+            return Err(Refusal::Stack);
+        }
+        Ok(Entry::new(Kind::Protocol, e.size - 1))
+    }
+
+    // Takes one side of a function type. The empty list represents the empty tuple.
+    pub fn side(&mut self) -> Result<Entry, Refusal>
+        requires { Held self.old }
+        ensures { Popping C.side self.old self.new result }
+    {
+        if self.took(Want::Kind(Kind::EmptyList)) {
+            return Ok(Entry::new(Kind::Tuple, 1));
+        }
+        self.pop_if(Want::Type)
+    }
 }

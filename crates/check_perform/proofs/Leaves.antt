@@ -1,16 +1,13 @@
 -- What a row leaves, and rows as a whole. Assumes nothing.
-use Rattle.std.specs.Prelude.{if◌then◌else◌}
+use Rattle.std.specs.Prelude.{if◌then◌else◌, map, Result, Ok, Err}
 use mathlib.Core.Path.{◌≡◌, refl, sym, ap, subst, ◌∙◌}
-use mathlib.Core.Bool.{Bool, true, false, ◌&&◌}
+use mathlib.Core.Bool.{Bool, true, false}
 use mathlib.Core.List.{List, [], ◌∷◌}
-use Prim.Native.Nat.{ℕ, zero, suc, ◌+◌, ◌*◌, ◌≤◌, ◌<◌}
+use Prim.Native.Nat.{ℕ, zero, suc, ◌+◌, ◌*◌, ◌≤◌}
 use Prim.Native.String.{String}
 use native.Mathlib.Omega.{arith}
-use native.Mathlib.Nat.{not-suc-le-zero, le_of_suc-le-suc}
-use borrow.Author.Tests.{leb-true}
-use lib.Dec.{eqb, leb}
-use lib.ListN.{length, length-append, get_or}
-use Rattle.definition.specs.Base.{Out, Done, ret, and_then}
+use lib.ListN.{length, length-append}
+use Rattle.definition.specs.Base.{Out, Done, ret, and_then, ◌>>◌}
 use Rattle.definition.specs.Kind as K
 use Rattle.definition.specs.Machine as M
 use Rattle.definition.specs.Shape as C
@@ -19,102 +16,41 @@ use Rattle.definition.specs.Check as Ch
 use Rattle.definition.specs.Enums as Enums
 use Rattle.definition.specs.declared.Refusal.{Refusal}
 use Rattle.definition.specs.declared.Operator.{Operator}
-use Rattle.machine.specs.declared.budget.Budget.{Budget}
-use Rattle.check_entries.specs.Lies.{machine_of, seen_of, entry_of, entry_at, taken_of}
+use Rattle.machine.specs.Beyond.{Beyond, beyond_itself}
+use Rattle.check_entries.specs.Lies.{machine_of, seen_of, entry_of, entry_at, Lent}
+use Rattle.check_entries.specs.Means.{take_of}
+use Rattle.check_entries.specs.Stores.{Wrote, Did, Failed, Performing}
 use Rattle.check_entries.proofs.Top.{length_stack}
+use Rattle.check_entries.proofs.Written.{wrote_both}
 use Rattle.check_entries.specs.declared.Entry.{Entry}
-use Rattle.check_entries.specs.declared.State.{State}
-use Rattle.check_entries.specs.declared.Taken.{Taken}
-use Rattle.check_entries.specs.declared.Taking.{Taking}
-use Rattle.check_entries.specs.declared.Taking.TheVariants as Taking
-use Rattle.check_rows.specs.Table.{kinds, own, counted, row_takes, row_leaves, copies_of, row_of, times_of}
-use Rattle.check_perform.specs.Performs.{Light, RowWent, RowRefused, RowTaking, LeftBy, put, Puts, Roomy, Sound}
-use Rattle.check_entries.specs.Stores.{Wrote, Failed, Performing, Remembered}
-use Rattle.check_rows.proofs.Rows.{row_is}
-use Rattle.machine.specs.Beyond.{beyond_itself, beyond_both}
-use Rattle.check_rows.specs.declared.Copies.{Copies}
-use Rattle.check_rows.specs.declared.Copies.TheVariants as Copies
-use Rattle.check_entries.specs.declared.stores.Step.{Step}
-use Rattle.check_entries.specs.declared.stores.Step.TheVariants as Step
-
--- every row leaves at least one node of its own, and at most five
-and_left : (a b : Bool) → (a && b) ≡ true → a ≡ true
-and_left true b e = refl
-and_left false b e = e
-
-and_right : (a b : Bool) → (a && b) ≡ true → b ≡ true
-and_right true b e = e
-and_right false b e = absurd (let z : ◌≡◌ {A = ℕ} 0 1 = cc in omega arith)
-
-few : List ℕ → Bool
-few [] = true
-few (x ∷ xs) = (leb 1 x && leb x 5) && few xs
-
-few_at : (xs : List ℕ) (i : ℕ) → few xs ≡ true → get_or xs i 0 ≤ 5
-unfolding few
-few_at [] i e = omega arith
-few_at (x ∷ xs) zero e = leb-true x 5 (and_right (leb 1 x) (leb x 5) (and_left (leb 1 x && leb x 5) (few xs) e))
-few_at (x ∷ xs) (suc i) e = few_at xs i (and_right (leb 1 x && leb x 5) (few xs) e)
-
-one_at : (xs : List ℕ) (i : ℕ) → i < length xs → few xs ≡ true → 1 ≤ get_or xs i 0
-unfolding few
-one_at [] i h e = absurd (not-suc-le-zero h)
-one_at (x ∷ xs) zero h e = leb-true 1 x (and_left (leb 1 x) (leb x 5) (and_left (leb 1 x && leb x 5) (few xs) e))
-one_at (x ∷ xs) (suc i) h e = one_at xs i (le_of_suc-le-suc h) (and_right (leb 1 x && leb x 5) (few xs) e)
-
-pub own_small : (r : ℕ) → get_or own r 0 ≤ 5
-unfolding few
-own_small r = few_at own r refl
-
-pub own_one : (r : ℕ) → r < 60 → 1 ≤ get_or own r 0
-unfolding few
-own_one r h = one_at own r h refl
-
--- the entry of a row, with a count or without
-module _ (row : ℕ) (a : Taken) {k n : ℕ} (p : k ≡ get_or kinds row 0) (q : n ≡ get_or own row 0) where
-  pub left_counted : eqb (get_or counted row 0) 1 ≡ true → (c : Copies) → K.entry k (n + a.size) a.count ≡ C.left (row_leaves row c) (taken_of a)
-  unfolding row_leaves
-  left_counted e c =
-      ap (λ (x : ℕ). K.entry x (n + a.size) a.count) p ∙ (ap (λ (x : ℕ). K.entry (get_or kinds row 0) (x + a.size) a.count) q
-      ∙ ap (λ (b : Bool). K.entry (get_or kinds row 0) (get_or own row 0 + a.size) (if b then a.count else 0)) (sym e))
-
-  pub left_uncounted : eqb (get_or counted row 0) 1 ≡ false → (c : Copies) → K.entry k (n + a.size) 0 ≡ C.left (row_leaves row c) (taken_of a)
-  unfolding row_leaves
-  left_uncounted e c =
-      ap (λ (x : ℕ). K.entry x (n + a.size) 0) p ∙ (ap (λ (x : ℕ). K.entry (get_or kinds row 0) (x + a.size) 0) q
-      ∙ ap (λ (b : Bool). K.entry (get_or kinds row 0) (get_or own row 0 + a.size) (if b then a.count else 0)) (sym e))
-
--- PUTS
-module _ (N : ℕ) (w w₁ : List ℕ) (st : State) (e : K.Entry) where
-  pub put_once : {c : Copies} {u : State} → c ≡ Copies.Once → Wrote (M.push e) N w w₁ st u → Wrote (put N c e) N w w₁ st u
-  unfolding copies_of
-  put_once {u = u} q h = subst (λ (c : Copies). Wrote (put N c e) N w w₁ st u) (sym q) h
-
-  pub put_times : {c : Copies} {n : ℕ} (r : Step) → c ≡ Copies.Times n → Performing (C.copied N n e) N w w₁ st r → Performing (put N c e) N w w₁ st r
-  unfolding copies_of
-  put_times r q h = subst (λ (c : Copies). Performing (put N c e) N w w₁ st r) (sym q) h
+use Rattle.check_entries.specs.declared.Entries.{Entries}
+use Rattle.check_rows.specs.Table.{leaves_of, maybe, RowOf}
+use Rattle.check_rows.specs.declared.Row.{Row}
+use Rattle.check_takes.specs.Taken.{taken_of}
+use Rattle.check_takes.specs.declared.sums.Taken.{Taken}
+use Rattle.check_perform.specs.Performs.{Light, RowWent, RowRefused, LeftBy, put, Roomy, Sound}
 
 -- LEAVES
-module _ (N : ℕ) (w : List ℕ) (st : State) {row : ℕ} {a : Taken} {e : Entry} (c : Copies) (l : LeftBy row a e) where
-  leave_not : (row_leaves row c).remembered ≡ false → C.leave N (row_leaves row c) (taken_of a) (machine_of w N st) ≡ put N c (entry_of e) (machine_of w N st)
-  unfolding C.leave row_leaves
-  leave_not q =
-      ap (λ (x : Bool). and_then ((if x then M.remember (C.left (row_leaves row c) (taken_of a)) else ret tt) (machine_of w N st)) (λ y. put N c (C.left (row_leaves row c) (taken_of a)))) q
-      ∙ ap (λ (x : K.Entry). put N c x (machine_of w N st)) (sym (l.is c))
+module _ (s t : Entries) {r : Row} {a : Taken} {e : Entry} (l : LeftBy r a e) where
+  leave_is : (b : Bool) → r.remembered ≡ b → C.leave s.ceiling (leaves_of r) (taken_of a) (machine_of s) ≡ and_then ((if b then M.remember (entry_of e) else ret tt) (machine_of s)) (λ y. put s.ceiling (maybe r.copies) (entry_of e))
+  unfolding C.leave
+  leave_is b q =
+      ap (λ (x : K.Entry). and_then ((if r.remembered then M.remember x else ret tt) (machine_of s)) (λ y. put s.ceiling (maybe r.copies) x)) (sym l.is)
+      ∙ ap (λ (x : Bool). and_then ((if x then M.remember (entry_of e) else ret tt) (machine_of s)) (λ y. put s.ceiling (maybe r.copies) (entry_of e))) q
 
-  leave_too : (row_leaves row c).remembered ≡ true → C.leave N (row_leaves row c) (taken_of a) (machine_of w N st) ≡ and_then (M.remember (entry_of e) (machine_of w N st)) (λ y. put N c (entry_of e))
-  unfolding C.leave row_leaves
-  leave_too q =
-      ap (λ (x : Bool). and_then ((if x then M.remember (C.left (row_leaves row c) (taken_of a)) else ret tt) (machine_of w N st)) (λ y. put N c (C.left (row_leaves row c) (taken_of a)))) q
-      ∙ ap (λ (x : K.Entry). and_then (M.remember x (machine_of w N st)) (λ y. put N c x)) (sym (l.is c))
+  pub left_plain : r.remembered ≡ false → (o : Result Done Refusal) → Performing (put s.ceiling (maybe r.copies) (entry_of e)) s t o → Performing (C.leave s.ceiling (leaves_of r) (taken_of a)) s t o
+  left_plain q (Ok u) h = record { is = leave_is false q ∙ h.is; wrote = h.wrote }
+  left_plain q (Err x) h = record { is = leave_is false q ∙ h.is; wrote = h.wrote }
 
-  pub left_plain : (w₁ : List ℕ) → (row_leaves row c).remembered ≡ false → (r : Step) → Performing (put N c (entry_of e)) N w w₁ st r → Performing (C.leave N (row_leaves row c) (taken_of a)) N w w₁ st r
-  left_plain w₁ q (Step.Done u) h = record { is = leave_not q ∙ h.is; outside = h.outside }
-  left_plain w₁ q (Step.Refused x) h = record { is = leave_not q ∙ h.is; outside = h.outside }
+  module _ {u : Entries} (q : r.remembered ≡ true) (g : Did (M.remember (entry_of e)) s u) where
+    leave_then : C.leave s.ceiling (leaves_of r) (taken_of a) (machine_of s) ≡ put u.ceiling (maybe r.copies) (entry_of e) (machine_of u)
+    leave_then =
+        leave_is true q ∙ (ap (λ (x : Out Shapes Done). and_then x (λ y. put s.ceiling (maybe r.copies) (entry_of e))) g.is
+        ∙ ap (λ (N : ℕ). put N (maybe r.copies) (entry_of e) (machine_of u)) (sym g.wrote.lent.ceiling))
 
-  pub left_remembered : {w₁ : List ℕ} (w₂ : List ℕ) {s : State} → (row_leaves row c).remembered ≡ true → Wrote (M.remember (entry_of e)) N w w₁ st s → (r : Step) → Performing (put N c (entry_of e)) N w₁ w₂ s r → Performing (C.leave N (row_leaves row c) (taken_of a)) N w w₂ st r
-  left_remembered w₂ q g (Step.Done u) h = record { is = leave_too q ∙ (ap (λ (o : Out Shapes Done). and_then o (λ y. put N c (entry_of e))) g.is ∙ h.is); outside = beyond_both g.outside h.outside }
-  left_remembered w₂ q g (Step.Refused x) h = record { is = leave_too q ∙ (ap (λ (o : Out Shapes Done). and_then o (λ y. put N c (entry_of e))) g.is ∙ h.is); outside = beyond_both g.outside h.outside }
+    pub left_remembered : (o : Result Done Refusal) → Performing (put u.ceiling (maybe r.copies) (entry_of e)) u t o → Performing (C.leave s.ceiling (leaves_of r) (taken_of a)) s t o
+    left_remembered (Ok v) h = record { is = leave_then ∙ h.is; wrote = wrote_both g.wrote h.wrote }
+    left_remembered (Err x) h = record { is = leave_then ∙ h.is; wrote = wrote_both g.wrote h.wrote }
 
 -- WHAT FITS
 pub length_seen : (w : List ℕ) (N n : ℕ) → length (seen_of w N n) ≡ n
@@ -122,66 +58,65 @@ unfolding seen_of
 length_seen w N zero = refl
 length_seen w N (suc n) = length-append (seen_of w N n) (entry_at w (N + n) ∷ []) ∙ (let q : length (seen_of w N n) + 1 ≡ suc n = omega (arith, length_seen w N n) in q)
 
-module _ {j N : ℕ} {w : List ℕ} {st : State} (s : Sound j N w st) where
-  pub sound_depth : st.depth + j ≤ st.budget.total
-  sound_depth = omega (arith, s.fits.depth, length_stack w st.depth)
+module _ {j : ℕ} {s : Entries} (h : Sound j s) where
+  pub sound_depth : s.state.depth + j ≤ s.state.budget.total
+  sound_depth = omega (arith, h.fits.depth, length_stack s.ws.now s.state.depth)
 
-  pub sound_seen : st.seen + j ≤ st.budget.total
-  sound_seen = omega (arith, s.fits.kept, length_seen w N st.seen)
+  pub sound_seen : s.state.seen + j ≤ s.state.budget.total
+  sound_seen = omega (arith, h.fits.kept, length_seen s.ws.now s.ceiling s.state.seen)
 
   -- the stack is inside the workspace
-  pub sound_inside : 3 * st.depth ≤ length w
-  sound_inside = omega (arith, sound_depth, s.total, s.long)
+  pub sound_inside : 3 * s.state.depth ≤ length s.ws.now
+  sound_inside = omega (arith, sound_depth, h.total, h.long)
 
-module _ {N : ℕ} {w : List ℕ} {st : State} (s : Sound 1 N w st) where
-  pub sound_light : Light w st
+module _ {s : Entries} (h : Sound 1 s) where
+  pub sound_light : Light s
   sound_light = record {
-    held = record { inside = sound_inside s; sized = s.fits.sized; light = omega (arith, s.fits.weight, s.total, s.ceiling) };
-    light = omega (arith, s.fits.weight, s.total, s.ceiling);
-    few = omega (arith, sound_depth s, s.total, s.ceiling);
+    held = record { inside = sound_inside h; sized = h.fits.sized; light = omega (arith, h.fits.weight, h.total, h.ceiling) };
+    light = omega (arith, h.fits.weight, h.total, h.ceiling);
+    few = omega (arith, sound_depth h, h.total, h.ceiling);
   }
 
-  pub sound_roomy : Roomy N w st
-  sound_roomy = record { long = s.long; ceiling = s.ceiling; total = s.total; deep = sound_depth s; seen = sound_seen s }
+  pub sound_roomy : Roomy s
+  sound_roomy = record { long = h.long; ceiling = h.ceiling; total = h.total; deep = sound_depth h; seen = sound_seen h }
 
-pub roomy_after : {N : ℕ} {w : List ℕ} {st : State} {row : ℕ} {b : Taken} {u : State} → Roomy N w st → RowWent w st row b u → Roomy N w u
+-- what reading leaves unchanged
+read_only : {s t : Entries} → t.ws.now ≡ s.ws.now → Lent s t → Wrote s t
+read_only {s} {t} q h = record { outside = subst (λ (w : List ℕ). Beyond 8 s.ceiling s.ws.now w) (sym q) (beyond_itself s.ws.now s.ceiling); lent = h }
+
+pub roomy_after : {ts : List C.Take} {s t : Entries} {b : Taken} → Roomy s → RowWent ts s b t → Roomy t
 roomy_after r h = record {
-  long = r.long;
-  ceiling = r.ceiling;
-  total = omega (arith, r.total, h.total);
+  long = omega (arith, r.long, h.lent.ceiling, ap (λ (w : List ℕ). length w) h.unwritten);
+  ceiling = omega (arith, r.ceiling, h.lent.ceiling);
+  total = omega (arith, r.total, h.total, h.lent.ceiling);
   deep = omega (arith, r.deep, h.total, h.depth);
   seen = omega (arith, r.seen, h.total, h.seen);
 }
 
-pub puts_after : {f : Check Done} {N : ℕ} {w w₁ : List ℕ} {st u : State} → Roomy N w st → Remembered f N w w₁ st u → Puts N w₁ u
-puts_after {st = st} {u = u} r h =
-    let t : u.budget.total ≡ st.budget.total = ap (λ (b : Budget). b.total) h.budget in
-    record { long = omega (arith, r.long, h.wrote.outside.long); ceiling = r.ceiling; total = omega (arith, r.total, t); deep = omega (arith, r.deep, t, h.depth) }
-
 -- ROWS
-module _ (N : ℕ) (fixed : ℕ → String) (op : Operator) {row : ℕ} (q : row ≡ row_of op) where
-  row_runs : {c : Copies} → c ≡ times_of op → C.run_row N (C.row (Enums.operator fixed op)) ≡ C.taking (row_takes row) (C.taken 0 0 false) (C.leave N (row_leaves row c))
+module _ (op : Operator) (r : Row) (q : RowOf op r) (fixed : ℕ → String) (s : Entries) where
+  run_is : (N : ℕ) → C.run_row N (C.row (Enums.operator fixed op)) (machine_of s) ≡ C.taking (map take_of r.takes.now) (C.taken 0 0 false) (C.leave N (leaves_of r)) (machine_of s)
   unfolding C.run_row
-  row_runs p =
-      ap (C.run_row N) (row_is fixed op) ∙ (ap (λ (r : ℕ). C.taking (row_takes r) (C.taken 0 0 false) (C.leave N (row_leaves r (times_of op)))) (sym q)
-      ∙ ap (λ (c : Copies). C.taking (row_takes row) (C.taken 0 0 false) (C.leave N (row_leaves row c))) (sym p))
+  run_is N = ap (λ (x : C.Row). C.run_row N x (machine_of s)) (q fixed)
 
-  module _ {w : List ℕ} {st : State} where
-    pub performed : (w₁ : List ℕ) {c : Copies} → c ≡ times_of op → {b : Taken} {u : State} → RowWent w st row b u → (r : Step) → Performing (C.leave N (row_leaves row c) (taken_of b)) N w w₁ u r → Performing (C.run_row N (C.row (Enums.operator fixed op))) N w w₁ st r
-    performed w₁ {c} p h (Step.Done v) g = record { is = ap (λ (f : Check Done). f (machine_of w N st)) (row_runs p) ∙ (h.is N (C.leave N (row_leaves row c)) ∙ g.is); outside = g.outside }
-    performed w₁ {c} p h (Step.Refused x) g = record { is = ap (λ (f : Check Done). f (machine_of w N st)) (row_runs p) ∙ (h.is N (C.leave N (row_leaves row c)) ∙ g.is); outside = g.outside }
+  module _ {t : Entries} where
+    pub not_performed : {x : Refusal} → RowRefused (map take_of r.takes.now) s t x → Failed (C.run_row s.ceiling (C.row (Enums.operator fixed op))) s t x
+    not_performed h = record { is = run_is s.ceiling ∙ h.is (C.leave s.ceiling (leaves_of r)); wrote = read_only h.unwritten h.lent }
 
-    pub not_performed : {x : Refusal} → RowRefused w st row x → Failed (C.run_row N (C.row (Enums.operator fixed op))) N w w st x
-    not_performed h = record { is = ap (λ (f : Check Done). f (machine_of w N st)) (row_runs refl) ∙ h.is N (C.leave N (row_leaves row (times_of op))); outside = beyond_itself _ _ }
+    module _ {b : Taken} (h : RowWent (map take_of r.takes.now) s b t) where
+      run_then : C.run_row s.ceiling (C.row (Enums.operator fixed op)) (machine_of s) ≡ C.leave t.ceiling (leaves_of r) (taken_of b) (machine_of t)
+      run_then =
+          run_is s.ceiling ∙ (h.is (C.leave s.ceiling (leaves_of r))
+          ∙ ap (λ (N : ℕ). C.leave N (leaves_of r) (taken_of b) (machine_of t)) (sym h.lent.ceiling))
 
--- AFTER A MATCH
-pub row_went : (w : List ℕ) (st : State) (row : ℕ) {r : Taking} {b : Taken} {u : State} → r ≡ Taking.Went b u → RowTaking w st row r → RowWent w st row b u
-row_went w st row q h = subst (RowTaking w st row) q h
-
-pub row_refused : (w : List ℕ) (st : State) (row : ℕ) {r : Taking} {x : Refusal} → r ≡ Taking.Refused x → RowTaking w st row r → RowRefused w st row x
-row_refused w st row q h = subst (RowTaking w st row) q h
+      pub performed : (u : Entries) (o : Result Done Refusal) → Performing (C.leave t.ceiling (leaves_of r) (taken_of b)) t u o → Performing (C.run_row s.ceiling (C.row (Enums.operator fixed op))) s u o
+      performed u (Ok v) g = record { is = run_then ∙ g.is; wrote = wrote_both (read_only h.unwritten h.lent) g.wrote }
+      performed u (Err x) g = record { is = run_then ∙ g.is; wrote = wrote_both (read_only h.unwritten h.lent) g.wrote }
 
 -- NAMES
-pub named : {N : ℕ} {w w₁ w₂ : List ℕ} {st s u : State} (words : ℕ) → Wrote (M.remember (K.entry K.identifier 1 0)) N w w₁ (record { budget = st.budget; depth = st.depth; seen = st.seen; words = words }) s → Wrote (M.push (K.entry K.identifier 1 0)) N w₁ w₂ s u → Wrote (Ch.name N words) N w w₂ st u
+pub named : {s t u : Entries} (words : ℕ) {e : Entry} → e ≡ record { kind = K.identifier; size = 1; count = 0 } → Did (M.remember (entry_of e)) (record s { state = record s.state { words = words } }) t → Did (M.push (entry_of e)) t u → Did (Ch.name s.ceiling words) s u
 unfolding Ch.name M.know
-named words h g = record { is = ap (λ (o : Out Shapes Done). and_then o (λ y. M.push (K.entry K.identifier 1 0))) h.is ∙ g.is; outside = beyond_both h.outside g.outside }
+named {s} words {e} q h g = record {
+  is = ap (λ (x : Entry). (M.know words >> M.remember (entry_of x) >> M.push (entry_of x)) (machine_of s)) (sym q) ∙ (ap (λ (o : Out Shapes Done). and_then o (λ y. M.push (entry_of e))) h.is ∙ g.is);
+  wrote = let w = wrote_both h.wrote g.wrote in record { outside = w.outside; lent = record { name = w.lent.name; ceiling = w.lent.ceiling } };
+}

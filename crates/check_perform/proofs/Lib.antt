@@ -1,3 +1,4 @@
+pub mod Rows
 pub mod RowTakes
 pub mod Leaves
 pub mod Recalls

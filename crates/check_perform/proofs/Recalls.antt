@@ -1,4 +1,5 @@
 -- What is remembered, by its index. Assumes nothing.
+use Rattle.std.specs.Prelude.{Result, Ok, Err}
 use mathlib.Core.Path.{◌≡◌, refl, sym, ap, subst, ◌∙◌}
 use mathlib.Core.Bool.{Bool, true, false}
 use mathlib.Core.List.{List, [], ◌∷◌, ◌++◌}
@@ -16,15 +17,14 @@ use Rattle.definition.specs.Shape as C
 use Rattle.definition.proofs.Room.{AllOf, Bounded}
 use Rattle.check_entries.specs.Lies.{machine_of, seen_of, entry_of, entry_at}
 use Rattle.check_entries.specs.declared.Entry.{Entry}
-use Rattle.check_entries.specs.declared.State.{State}
+use Rattle.check_entries.specs.declared.Entries.{Entries}
 use Rattle.definition.specs.Enums.{number}
+use Rattle.definition.specs.declared.Refusal.{Refusal}
 use Rattle.definition.specs.declared.Refusal.TheVariants.{Spelling}
 use Rattle.check_entries.specs.Stores.{Performing, Failed}
 use Rattle.check_perform.specs.Performs.{Sound, recall_copies}
-use Rattle.machine.specs.Beyond.{beyond_itself}
+use Rattle.check_entries.proofs.Written.{wrote_itself}
 use Rattle.check_perform.proofs.Leaves.{length_seen}
-use Rattle.check_entries.specs.declared.stores.Step.{Step}
-use Rattle.check_entries.specs.declared.stores.Step.TheVariants as Step
 
 get_front : (xs ys : List K.Entry) (i : ℕ) → i < length xs → get_elem? (xs ++ ys) i ≡ get_elem? xs i
 get_front [] ys i h = absurd (not-suc-le-zero h)
@@ -53,26 +53,26 @@ seen_at w N (suc n) i h = go (λ p. seen_at w N n i p) (ltb i n) refl
         ap (get_elem? (seen_of w N n ++ (entry_at w (N + n) ∷ []))) l ∙ (get_last (seen_of w N n) (entry_at w (N + n)) ∙ ap (λ (k : ℕ). some (entry_at w (N + k))) (sym p))
 
 all_at : (P : K.Entry → Type 0) (es : List K.Entry) (i : ℕ) {e : K.Entry} → AllOf P es → get_elem? es i ≡ some e → P e
-all_at P [] i a q = absurd (let z : ◌≡◌ {A = ℕ} 0 1 = cc in omega arith)
+all_at P [] i a q = absurd (cc)
 all_at P (x ∷ es) zero {e} a q = let p : x ≡ e = cc in subst P p a.0
 all_at P (x ∷ es) (suc i) a q = all_at P es i a.1 q
 
 -- each remembered entry is at least one node
-pub seen_size : {N : ℕ} {w : List ℕ} {st : State} {i : ℕ} {e : Entry} → Sound 0 N w st → i < st.seen → entry_of e ≡ entry_at w (N + i) → 1 ≤ e.size
-seen_size {N} {w} {st} {i} {e} s h q = (all_at (Bounded st.budget.total) (seen_of w N st.seen) i s.fits.remembered (seen_at w N st.seen i h ∙ ap some (sym q))).0
+pub seen_size : {s : Entries} {i : ℕ} {e : Entry} → Sound 0 s → i < s.state.seen → entry_of e ≡ entry_at s.ws.now (s.ceiling + i) → 1 ≤ e.size
+seen_size {s} {i} {e} h l q = (all_at (Bounded s.state.budget.total) (seen_of s.ws.now s.ceiling s.state.seen) i h.fits.remembered (seen_at s.ws.now s.ceiling s.state.seen i l ∙ ap some (sym q))).0
 
-module _ (N : ℕ) (w : List ℕ) (st : State) (times i : ℕ) where
-  pub not_recalled : st.seen ≤ i → Failed (recall_copies N times i) N w w st Spelling
+module _ (s : Entries) (times i : ℕ) where
+  pub not_recalled : s.state.seen ≤ i → Failed (recall_copies s.ceiling times i) s s Spelling
   unfolding M.recall number
   not_recalled h = record {
-    is = ap (λ (o : Option K.Entry). and_then (given o (refused 9) (λ n. ok n (machine_of w N st))) (λ e. C.copied N times e)) (get_past (seen_of w N st.seen) i (omega (arith, length_seen w N st.seen)));
-    outside = beyond_itself _ _;
+    is = ap (λ (o : Option K.Entry). and_then (given o (refused 9) (λ n. ok n (machine_of s))) (λ e. C.copied s.ceiling times e)) (get_past (seen_of s.ws.now s.ceiling s.state.seen) i (omega (arith, length_seen s.ws.now s.ceiling s.state.seen)));
+    wrote = wrote_itself;
   }
 
-  recalls_it : (e : Entry) → i < st.seen → entry_of e ≡ entry_at w (N + i) → recall_copies N times i (machine_of w N st) ≡ C.copied N times (entry_of e) (machine_of w N st)
+  recalls_it : (e : Entry) → i < s.state.seen → entry_of e ≡ entry_at s.ws.now (s.ceiling + i) → recall_copies s.ceiling times i (machine_of s) ≡ C.copied s.ceiling times (entry_of e) (machine_of s)
   unfolding M.recall
-  recalls_it e h q = ap (λ (o : Option K.Entry). and_then (given o (refused 9) (λ n. ok n (machine_of w N st))) (λ e. C.copied N times e)) (seen_at w N st.seen i h ∙ ap some (sym q))
+  recalls_it e h q = ap (λ (o : Option K.Entry). and_then (given o (refused 9) (λ n. ok n (machine_of s))) (λ e. C.copied s.ceiling times e)) (seen_at s.ws.now s.ceiling s.state.seen i h ∙ ap some (sym q))
 
-  pub recalled : (w₁ : List ℕ) (e : Entry) → i < st.seen → entry_of e ≡ entry_at w (N + i) → (r : Step) → Performing (C.copied N times (entry_of e)) N w w₁ st r → Performing (recall_copies N times i) N w w₁ st r
-  recalled w₁ e h q (Step.Done u) g = record { is = recalls_it e h q ∙ g.is; outside = g.outside }
-  recalled w₁ e h q (Step.Refused x) g = record { is = recalls_it e h q ∙ g.is; outside = g.outside }
+  pub recalled : (t : Entries) (e : Entry) → i < s.state.seen → entry_of e ≡ entry_at s.ws.now (s.ceiling + i) → (r : Result Done Refusal) → Performing (C.copied s.ceiling times (entry_of e)) s t r → Performing (recall_copies s.ceiling times i) s t r
+  recalled t e h q (Ok u) g = record { is = recalls_it e h q ∙ g.is; wrote = g.wrote }
+  recalled t e h q (Err x) g = record { is = recalls_it e h q ∙ g.is; wrote = g.wrote }

@@ -1,140 +1,108 @@
-// The shape check's only interpreter, and what a row leaves. The entries of the stack are stored in
-// the lent workspace from place 0 on, the remembered ones from place N on, three numbers each.
+// The shape check's only interpreter, and what a row leaves.
 #![tactic(auto)]
 
-ghost use Rattle.std.specs.Prelude.{◌+◌, ◌-◌, ◌*◌, ◌^◌, ◌≤◌, ◌<◌};
-ghost use Rattle.check_rows.specs.Table.{row_leaves};
-ghost use Rattle.check_entries.specs.Lies.{entry_of, taken_of};
+ghost use Rattle.std.specs.Prelude.{◌+◌, ◌≤◌, ◌<◌, ◌^◌, map};
+ghost use Rattle.check_entries.specs.Lies.{entry_of};
+ghost use Rattle.check_entries.specs.Means.{take_of};
+ghost use Rattle.check_entries.specs.Stores.{Performing, Did};
+ghost use Rattle.check_rows.specs.Table.{leaves_of, maybe};
+ghost use Rattle.check_takes.specs.Taken.{taken_of};
 ghost use Rattle.definition.specs.Check as Ch;
 ghost use Rattle.definition.specs.Shape as C;
-ghost use Rattle.check_perform.specs.Performs.{Light, RowTaking, LeftBy, put, recall_copies, Puts, Roomy, Sound, Performs};
-ghost use Rattle.check_entries.specs.Stores.{Performing, Wrote};
+ghost use Rattle.check_perform.specs.Performs.{Light, ShortTakes, RowTaking, Owns, LeftBy, put, recall_copies, Puts, Roomy, Sound, Performs};
 
-use check_entries::stores::{Step, copied, push, remember};
-use check_entries::{Entry, State, Taken, Taking};
-use check_rows::{Copies, codes_of, counts, decode, kind_of, own_of, remembers, row_of, times_of};
+use check_entries::{Entries, Entry, Take};
+use check_rows::{Row, row_of};
+use check_takes::sums::Taken;
+use check_takes::take_one;
 use definition::{Operator, Refusal};
+use machine::kinds::Kind;
 
 // The interpreter
 
-// Performs all takes of a row.
-fn take_row(ws: &[u32], st: State, row: usize) -> Taking
-    requires { Light ws.now st × (row < 60) }
-    ensures { RowTaking ws.now st row result }
+// Performs all takes of a row, and returns what was taken.
+fn take_row(entries: &mut Entries, takes: &[Take]) -> Result<Taken, Refusal>
+    requires room { Light entries.old }
+    requires short { ShortTakes (map take_of takes.now) }
+    ensures { RowTaking (map take_of takes.now) entries.old entries.new result }
 {
-    let mut left = st;
-    let mut sum = Taken {
-        size: 0,
-        count: 0,
-        signed: false,
-    };
-    let mut rest = codes_of(row);
-    let mut j: usize = 0;
-    while j < 10 {
-        let c = rest % 32;
-        if c == 0 {
-            return Taking::Went(sum, left);
-        }
-        let t = decode(c);
-        match check_takes::take_one(ws, left, sum, t) {
-            Taking::Went(b, next) => {
-                sum = b;
-                left = next;
-            }
-            Taking::Refused(r) => {
-                return Taking::Refused(r);
-            }
-        }
-        rest = rest / 32;
-        j += 1;
+    let mut taken = Taken::NOTHING;
+    for take in takes {
+        taken = take_one(entries, taken, *take)?;
     }
-    Taking::Went(sum, left)
+    Ok(taken)
 }
 
 // What is written
 
 // Pushes an entry, either once and not charged, or that many copies of it.
-fn put_on(ws: &mut [u32], ceiling: usize, st: State, copies: Copies, e: Entry) -> Step
-    requires { Puts ceiling ws.old st × (1 ≤ e.size) }
-    ensures { Performing (put ceiling copies (entry_of e)) ceiling ws.old ws.new st result }
+fn put_on(entries: &mut Entries, copies: Option<usize>, e: Entry) -> Result<(), Refusal>
+    requires { Puts entries.old × (1 ≤ e.size) }
+    ensures { Performing (put entries.old.ceiling (maybe copies) (entry_of e)) entries.old entries.new result }
 {
     match copies {
-        Copies::Once => Step::Done(push(ws, ceiling, st, e)),
-        Copies::Times(n) => copied(ws, ceiling, st, n, e),
+        None => {
+            entries.push(e);
+            Ok(())
+        }
+        Some(times) => entries.push_charged(times, e),
     }
 }
 
 // Returns the entry that a row leaves.
-fn left_by(row: usize, a: Taken) -> Entry
-    requires { (row < 60) × (a.size ≤ 2 ^ 21) × (a.count < 2 ^ 32) }
-    ensures { LeftBy row a result }
+fn left_by(row: &Row, taken: Taken) -> Entry
+    requires { Owns row.now × (taken.size ≤ 2 ^ 21) × (taken.count < 2 ^ 32) }
+    ensures { LeftBy row.now taken result }
 {
-    let kind = kind_of(row);
-    let size = own_of(row) + a.size as u32;
-    if counts(row) {
-        return Entry {
-            kind,
-            size,
-            count: a.count as u32,
-        };
-    }
     Entry {
-        kind,
-        size,
-        count: 0,
+        kind: row.kind as u32,
+        size: row.own + taken.size as u32,
+        count: if row.counted { taken.count as u32 } else { 0 },
     }
 }
 
 // Pushes what a row leaves.
-fn leave(ws: &mut [u32], ceiling: usize, st: State, row: usize, a: Taken, copies: Copies) -> Step
-    requires { Roomy ceiling ws.old st × (row < 60) × (a.size ≤ 2 ^ 21) × (a.count < 2 ^ 32) }
-    ensures { Performing (C.leave ceiling (row_leaves row copies) (taken_of a)) ceiling ws.old ws.new st result }
+fn leave(entries: &mut Entries, row: &Row, taken: Taken) -> Result<(), Refusal>
+    requires { Roomy entries.old × Owns row.now × (taken.size ≤ 2 ^ 21) × (taken.count < 2 ^ 32) }
+    ensures { Performing (C.leave entries.old.ceiling (leaves_of row.now) (taken_of taken)) entries.old entries.new result }
 {
-    let e = left_by(row, a);
-    if remembers(row) {
-        let kept = remember(ws, ceiling, st, e);
-        return put_on(ws, ceiling, kept, copies, e);
+    let e = left_by(row, taken);
+    if row.remembered {
+        entries.remember(e);
     }
-    put_on(ws, ceiling, st, copies, e)
+    put_on(entries, row.copies, e)
 }
 
 // Performs one operator of the check, other than `A`.
-pub fn perform(ws: &mut [u32], ceiling: usize, st: State, op: Operator) -> Step
-    requires { Sound 1 ceiling ws.old st }
-    ensures { Performs op ceiling ws.old ws.new st result }
+pub fn perform(entries: &mut Entries, op: Operator) -> Result<(), Refusal>
+    requires { Sound 1 entries.old }
+    ensures { Performs op entries.old entries.new result }
 {
     let row = row_of(op);
-    match take_row(ws, st, row) {
-        Taking::Went(a, next) => leave(ws, ceiling, next, row, a, times_of(op)),
-        Taking::Refused(r) => Step::Refused(r),
-    }
+    let taken = take_row(entries, row.takes)?;
+    leave(entries, &row, taken)
 }
 
 // A name: it is remembered and pushed. `words` is then the number of known words.
-pub fn name(ws: &mut [u32], ceiling: usize, st: State, words: usize) -> State
-    requires { Sound 1 ceiling ws.old st }
-    ensures { Wrote (Ch.name ceiling words) ceiling ws.old ws.new st result }
+pub fn name(entries: &mut Entries, words: usize)
+    requires { Sound 1 entries.old }
+    ensures { Did (Ch.name entries.old.ceiling words) entries.old entries.new }
 {
-    let e = Entry {
-        kind: 0,
-        size: 1,
-        count: 0,
-    };
-    let mut known = st;
-    known.words = words;
-    let kept = remember(ws, ceiling, known, e);
-    push(ws, ceiling, kept, e)
+    let e = Entry::new(Kind::Identifier, 1);
+    entries.state.words = words;
+    entries.remember(e);
+    entries.push(e);
 }
 
 // A letter of `A`: pushes that many copies of a remembered entry, which is given by its index.
-pub fn recall(ws: &mut [u32], ceiling: usize, st: State, times: usize, index: usize) -> Step
-    requires { Sound 0 ceiling ws.old st }
-    ensures { Performing (recall_copies ceiling times index) ceiling ws.old ws.new st result }
+pub fn recall(entries: &mut Entries, times: usize, index: usize) -> Result<(), Refusal>
+    requires { Sound 0 entries.old }
+    ensures { Performing (recall_copies entries.old.ceiling times index) entries.old entries.new result }
 {
-    let seen = st.seen;
-    if seen <= index {
-        return Step::Refused(Refusal::Spelling);
+    if entries.state.seen <= index {
+        return Err(Refusal::Spelling);
     }
-    let e = check_entries::entry_at(ws, ceiling + index);
-    copied(ws, ceiling, st, times, e)
+    let place = entries.ceiling + index;
+    let e = entries.entry_at(place);
+    entries.push_charged(times, e)
 }

@@ -1,3 +1,0 @@
-pub mod Arms
-pub mod Indices
-pub mod Rows

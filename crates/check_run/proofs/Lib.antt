@@ -1,1 +1,5 @@
+pub mod Chains
+pub mod Beginnings
+pub mod OneOperator
+pub mod PlainName
 pub mod RunLoop

@@ -4,90 +4,63 @@
 // One turn: the letters of an operator, and the operator.
 pub mod turns;
 
-ghost use Rattle.std.specs.Prelude.{◌≡◌, true, ◌*◌, ◌≤◌, length};
+ghost use Rattle.std.specs.Prelude.{◌≡◌, true, ◌*◌, ◌≤◌, ◌<◌, length};
 ghost use Rattle.definition.specs.Text as Text;
-ghost use Rattle.check_run.specs.Runs.{Ending};
+ghost use Rattle.text_words.specs.Waits.{Waits};
+ghost use Rattle.check_perform.specs.Performs.{Sound};
+ghost use Rattle.check_run.specs.Runs.{Stepping, Ending};
 
-use crate::turns::{PlainTurned, Turned, name_turn, plain_turn, turn};
-use check_entries::State;
+use crate::turns::{name_turn, plain_turn, turn};
+use check_entries::{Entries, State};
 use definition::Refusal;
-use machine::budget::Budget;
-use text_cursor::Cursor;
-use text_words::waiting::{Waiting, count_waiting, wait};
+use text_cursor::Reader;
+use text_words::waiting::{Waiting, note_waiting, wait};
 
-// The state at the end of a run; or the refusal, and the place in the body where the refused
-// operator begins.
+// The refusal of a run, and the place in the body where the refused operator begins.
 #[derive(Clone, Copy)]
-pub enum Ended {
-    Ran(State),
-    Stopped(Refusal, usize),
+pub struct Stopped {
+    pub refusal: Refusal,
+    pub at: usize,
+}
+
+// Performs one turn of `run`, and keeps the literal that it reads for a later count. The words of
+// literals are counted only before an identifier that begins with `0`, or when 16 literals are
+// waiting.
+fn step(text: &mut Reader, waiting: &mut Waiting, entries: &mut Entries) -> Result<(), Refusal>
+    requires { Sound 0 entries.old × (text.old.at < length text.old.text.now) × (length text.old.text.now ≤ 65535) × (Text.well_formed text.old.text.now ≡ true) × Waits text.old.text.now waiting.old }
+    ensures { Stepping text.old text.new waiting.old waiting.new entries.old entries.new result }
+{
+    let b = text.text[text.at];
+    if !b.is_ascii_digit() {
+        return turn(text, entries);
+    }
+    if b == b'0' || waiting.len() == 16 {
+        note_waiting(text.text, waiting, &mut entries.state.words);
+        *waiting = Waiting::new();
+        return name_turn(text, entries);
+    }
+    let from = plain_turn(text, entries)?;
+    wait(waiting, from, text.at);
+    Ok(())
 }
 
 // Performs the turns of `run`: k of them, or fewer if the body ends. It starts anew, whatever the
-// workspace holds. The words of a literal are counted only before an identifier that begins with
-// `0`, or when 16 literals are waiting. The count of words in the final state therefore says
-// nothing.
-pub fn run(body: &[u8], k: usize, ws: &mut [u32], ceiling: usize) -> Ended
-    requires { (8 * ceiling ≤ length ws.old) × (ceiling ≤ 65536) × (length body.now ≤ 65535) × (Text.well_formed body.now ≡ true) }
-    ensures { Ending ceiling k body.now ws.old ws.new result }
+// entries are. The count of words in the final state says nothing.
+pub fn run(body: &[u8], k: usize, entries: &mut Entries) -> Result<(), Stopped>
+    requires { (8 * entries.old.ceiling ≤ length entries.old.ws.now) × (entries.old.ceiling ≤ 65536) × (length body.now ≤ 65535) × (Text.well_formed body.now ≡ true) }
+    ensures { Ending k body.now entries.old entries.new result }
 {
-    let mut st = State {
-        budget: Budget::new(),
-        depth: 0,
-        seen: 0,
-        words: 0,
-    };
+    entries.state = State::new();
+    let mut text = Reader { text: body, at: 0 };
     let mut waiting = Waiting::new();
-    let mut c = Cursor { at: 0 };
-    let mut i = 0;
-    while i < k {
-        let at = c.at;
+    for _ in 0..k {
+        let at = text.at;
         if body.len() <= at {
-            return Ended::Ran(st);
+            return Ok(());
         }
-        let b = body[at];
-        if text_cursor::is_digit(b) {
-            let held = waiting.count;
-            if (b == b'0') | (held == 16) {
-                let mut counted = st;
-                counted.words = count_waiting(body, waiting, st.words);
-                waiting = Waiting::new();
-                match name_turn(body, c, ws, ceiling, counted) {
-                    Turned::To(u, next) => {
-                        st = u;
-                        c = next;
-                        i += 1;
-                    }
-                    Turned::Refused(r) => {
-                        return Ended::Stopped(r, at);
-                    }
-                }
-            } else {
-                match plain_turn(body, c, ws, ceiling, st) {
-                    PlainTurned::To(u, from, next) => {
-                        let to = next.at;
-                        waiting = wait(waiting, from, to);
-                        st = u;
-                        c = next;
-                        i += 1;
-                    }
-                    PlainTurned::Refused(r) => {
-                        return Ended::Stopped(r, at);
-                    }
-                }
-            }
-        } else {
-            match turn(body, c, ws, ceiling, st) {
-                Turned::To(u, next) => {
-                    st = u;
-                    c = next;
-                    i += 1;
-                }
-                Turned::Refused(r) => {
-                    return Ended::Stopped(r, at);
-                }
-            }
+        if let Err(refusal) = step(&mut text, &mut waiting, entries) {
+            return Err(Stopped { refusal, at });
         }
     }
-    Ended::Ran(st)
+    Ok(())
 }

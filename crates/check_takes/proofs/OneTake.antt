@@ -1,9 +1,12 @@
 -- One take after another. Assumes nothing.
-use Rattle.std.specs.Prelude.{if◌then◌else◌}
-use mathlib.Core.Path.{◌≡◌, refl, sym, ap, subst, ◌∙◌}
+use Rattle.std.specs.Prelude.{if◌then◌else◌, Result, Ok, Err}
+use Rattle.std.specs.Result.{IsErrAnd}
+use Rattle.std.proofs.lemmas.Result.{err_from_is_err_and}
+use mathlib.Core.Path.{◌≡◌, refl, sym, ap, ◌∙◌}
 use mathlib.Core.Bool.{Bool, true, false}
 use mathlib.Core.List.{List, ◌∷◌}
-use Prim.Native.Nat.{ℕ, ◌+◌, ◌-◌, ◌≤◌}
+use mathlib.Core.Option.{some, none}
+use Prim.Native.Nat.{ℕ, ◌+◌, ◌≤◌}
 use native.Mathlib.Omega.{arith}
 use lib.Dec.{eqb}
 use Rattle.definition.specs.Base.{is_some, Out, ok, refused, Done, ret, and_then, ◌>>=◌, ◌>>◌}
@@ -11,21 +14,17 @@ use Rattle.definition.specs.Kind as K
 use Rattle.definition.specs.Machine.{wrap, rounds}
 use Rattle.definition.specs.Shape as C
 use Rattle.definition.specs.Shape.{Shapes, Check, Take}
-use Rattle.check_entries.specs.Lies.{machine_of, entry_of, taken_of}
-use Rattle.check_entries.specs.EntriesTaken.{Went, Moving, looked}
+use Rattle.definition.specs.declared.Refusal.{Refusal}
+use Rattle.check_entries.specs.Lies.{machine_of, entry_of}
+use Rattle.check_entries.specs.EntriesTaken.{Went, Refuses, looked}
+use Rattle.check_takes.specs.Taken.{taken_of, Sets}
 use Rattle.check_takes.specs.ListRounds.{all_of, Adds, Gathered, Gathering}
-use Rattle.check_takes.specs.Sums.{take_step, Ready, Goes, Takes, kept_of, Sets}
-use Rattle.check_entries.proofs.Top.{held_less, weigh_less}
-use Rattle.check_entries.proofs.Steps.{assoc, on, next_refuses, refuses, stays, yes_went, no_went, yes_refuses}
+use Rattle.check_takes.specs.Takes.{take_step, Ready, Goes, Takes}
+use Rattle.check_entries.proofs.Top.{held_less}
+use Rattle.check_entries.proofs.Steps.{assoc, on, lent_both, next_refuses, refuses, stays, yes_went, no_went, yes_refuses}
 use Rattle.check_entries.specs.declared.Entry.{Entry}
-use Rattle.check_entries.specs.declared.State.{State}
-use Rattle.check_entries.specs.declared.Taken.{Taken}
-use Rattle.check_entries.specs.declared.Moved.{Moved}
-use Rattle.check_entries.specs.declared.Moved.TheVariants as Moved
-use Rattle.check_takes.specs.declared.lists.Series.TheVariants as Series
-use Rattle.check_entries.specs.declared.Taking.{Taking}
-use Rattle.check_entries.specs.declared.Taking.TheVariants as Taking
-use Rattle.check_takes.proofs.sums.Adding.{same_taken}
+use Rattle.check_entries.specs.declared.Entries.{Entries}
+use Rattle.check_takes.specs.declared.sums.Taken.{Taken}
 
 -- THE LAW: the takes of a row are its first, and then the others
 pub taking_step : (t : Take) (ts : List Take) (a : C.Taken) (k : C.Taken → Check Done) (s : Shapes) → C.taking (t ∷ ts) a k s ≡ and_then (take_step t a s) (λ b. C.taking ts b k)
@@ -66,96 +65,157 @@ taking_step (C.refuses r) ts a k s = refl
 taking_step C.printed_ahead ts a k s = refl
 
 -- ONE TAKE
-pub ready_less : {list : Bool} {w : List ℕ} {st : State} {a : Taken} → Ready list w st a → Ready false w st a
-ready_less h = record { held = h.held; light = h.light; few = λ e. absurd (let z : ◌≡◌ {A = ℕ} 0 1 = cc in omega arith) }
+-- there is room after a step, too
+pub adds_on : {A : Type 0} {f : Check A} {s t : Entries} {x : A} {l m : ℕ} {a : Taken} → Ready true s a → Went f s t l m x → Adds t a
+adds_on {s = s} {t = t} h g =
+    let d : t.state.depth ≤ s.state.depth = omega (arith, g.depth) in
+    record { held = held_less h.held g.unwritten d; light = omega (arith, h.light, g.lighter); few = omega (arith, h.few refl) }
 
-pub ready_adds : {w : List ℕ} {st u : State} {a : Taken} → Ready true w st a → u.depth ≤ st.depth → Adds w u a
-ready_adds {w} {st} {u} h l = record { held = held_less u h.held l; light = omega (arith, h.light, weigh_less w u.depth st.depth l); few = omega (arith, h.few refl) }
+-- the exit of a `?`
+pub exits : (k : C.Take) (s t : Entries) (a : Taken) (r : Result Taken Refusal) {x : Refusal} → IsErrAnd r (λ e. e ≡ x) → Refuses (take_step k (taken_of a)) s t x → Takes k s a t r
+exits k s t a r q h = let p = err_from_is_err_and r q in rw (p.1, p.2) h
+
+-- what was taken is unchanged
+module _ {A : Type 0} {f : Check A} {s t : Entries} (a : Taken) where
+  pub unchanged : {l m : ℕ} {x : A} → Went f s t l m x → (k : A → Check C.Taken) → k x (machine_of t) ≡ ok (taken_of a) (machine_of t) → Goes (f >>= k) false s a t a
+  unchanged h k q = record {
+    is = on h k ∙ q;
+    depth = omega (arith, h.depth);
+    size = omega (arith, h.lighter);
+    small = λ x. x;
+    count = λ x. omega (arith, h.depth);
+    seen = h.seen;
+    total = h.total;
+    unwritten = h.unwritten;
+    lent = h.lent;
+  }
 
 -- an entry is added to what was taken
-module _ {f : Check K.Entry} {w : List ℕ} {st u : State} {e : Entry} {l : ℕ} (a : Taken) (h : Went f w st l e.size (entry_of e) u) where
-  pub added : {b : Taken} → taken_of b ≡ C.add (entry_of e) (taken_of a) → Goes (f >>= λ e. ret (C.add e (taken_of a))) false w st a b u
+module _ {f : Check K.Entry} {s t : Entries} {e : Entry} {l : ℕ} (a : Taken) (h : Went f s t l e.size (entry_of e)) where
+  pub added : {b : Taken} → taken_of b ≡ C.add (entry_of e) (taken_of a) → Goes (f >>= λ e. ret (C.add e (taken_of a))) false s a t b
   added {b} q =
-      let s : b.size ≡ e.size + a.size = ap (λ (t : C.Taken). t.size) q in
-      let n : b.count ≡ a.count = ap (λ (t : C.Taken). t.count) q in
+      let m : b.size ≡ e.size + a.size = ap (λ (x : C.Taken). x.size) q in
+      let n : b.count ≡ a.count = ap (λ (x : C.Taken). x.count) q in
       record {
-        is = λ N. on h N _ ∙ ap (λ (t : C.Taken). ok t (machine_of w N u)) (sym q);
+        is = on h _ ∙ ap (λ (x : C.Taken). ok x (machine_of t)) (sym q);
         depth = omega (arith, h.depth);
-        size = omega (arith, h.lighter, s);
+        size = omega (arith, h.lighter, m);
         small = λ x. omega (arith, n);
         count = λ x. omega (arith, h.depth, n);
         seen = h.seen;
         total = h.total;
+        unwritten = h.unwritten;
+        lent = h.lent;
       }
 
   -- and its count with it
-  pub counted : (k : K.Entry → C.Taken → C.Taken) → (k (entry_of e) (taken_of a)).size ≡ e.size + a.size → {b : Taken} → Sets (k (entry_of e) (taken_of a)) b → Goes (f >>= λ e. ret (k e (taken_of a))) true w st a b u
+  pub counted : (k : K.Entry → C.Taken → C.Taken) → (k (entry_of e) (taken_of a)).size ≡ e.size + a.size → {b : Taken} → Sets (k (entry_of e) (taken_of a)) b → Goes (f >>= λ e. ret (k e (taken_of a))) true s a t b
   counted k z {b} q =
-      let s : b.size ≡ e.size + a.size = ap (λ (t : C.Taken). t.size) q.same ∙ z in
+      let m : b.size ≡ e.size + a.size = ap (λ (x : C.Taken). x.size) q.same ∙ z in
       record {
-        is = λ N. on h N _ ∙ ap (λ (t : C.Taken). ok t (machine_of w N u)) (sym q.same);
+        is = on h _ ∙ ap (λ (x : C.Taken). ok x (machine_of t)) (sym q.same);
         depth = omega (arith, h.depth);
-        size = omega (arith, h.lighter, s);
+        size = omega (arith, h.lighter, m);
         small = λ x. q.small;
-        count = λ x. absurd (let y : ◌≡◌ {A = ℕ} 0 1 = cc in omega arith);
+        count = λ x. absurd (cc);
         seen = h.seen;
         total = h.total;
+        unwritten = h.unwritten;
+        lent = h.lent;
       }
 
-pub goes_is : {f g : Check C.Taken} {b : Bool} {w : List ℕ} {st u : State} {a d : Taken} → ((N : ℕ) → f (machine_of w N st) ≡ g (machine_of w N st)) → Goes g b w st a d u → Goes f b w st a d u
-goes_is q h = record { is = λ N. q N ∙ h.is N; depth = h.depth; size = h.size; small = h.small; count = h.count; seen = h.seen; total = h.total }
+-- SIGNATURES AND WRAPS
+module _ {s t : Entries} (a : Taken) where
+  pub signed_by : {e : Entry} {b : Taken} → Went (C.try (eqb K.generic_signature)) s t 1 e.size (some (entry_of e)) → taken_of b ≡ C.taken (1 + (e.size + a.size)) a.count true → Goes (take_step C.a-signature (taken_of a)) false s a t b
+  unfolding take_step C.add_signature
+  signed_by {e} {b} h q =
+      let m : b.size ≡ 1 + (e.size + a.size) = ap (λ (x : C.Taken). x.size) q in
+      let n : b.count ≡ a.count = ap (λ (x : C.Taken). x.count) q in
+      record {
+        is = on h _ ∙ ap (λ (x : C.Taken). ok x (machine_of t)) (sym q);
+        depth = omega (arith, h.depth);
+        size = omega (arith, h.lighter, m);
+        small = λ x. omega (arith, n);
+        count = λ x. omega (arith, h.depth, n);
+        seen = h.seen;
+        total = h.total;
+        unwritten = h.unwritten;
+        lent = h.lent;
+      }
 
--- a move, after which what was taken is unchanged
-module _ (w : List ℕ) (st : State) (a : Taken) where
-  pub name_kept : (m : Moved) → Moving C.pop_name w st m → {r : Taking} → r ≡ kept_of m a → Takes C.a_name w st a r
-  unfolding take_step
-  name_kept (Moved.To u) h q = subst (Takes C.a_name w st a) (sym q) (same_taken a _ h (λ N. refl))
-  name_kept (Moved.Refused x) h q = subst (Takes C.a_name w st a) (sym q) (refuses _ h)
+  pub not_signed : Went (C.try (eqb K.generic_signature)) s t 0 0 none → Goes (take_step C.a-signature (taken_of a)) false s a t a
+  unfolding take_step C.add_signature
+  not_signed h = unchanged a h _ refl
 
-  pub wraps_kept : (m : Moved) → Moving wrap w st m → {r : Taking} → r ≡ kept_of m a → Takes C.wraps w st a r
+  pub signed_wraps : a.signed ≡ true → Went wrap s t 0 0 tt → Goes (take_step C.under_signature (taken_of a)) false s a t a
   unfolding take_step
-  wraps_kept (Moved.To u) h q = subst (Takes C.wraps w st a) (sym q) (same_taken a _ h (λ N. refl))
-  wraps_kept (Moved.Refused x) h q = subst (Takes C.wraps w st a) (sym q) (refuses _ h)
+  signed_wraps q h = unchanged a (yes_went (ret tt) q h) _ refl
 
-  pub signed_kept : a.signed ≡ true → (m : Moved) → Moving wrap w st m → {r : Taking} → r ≡ kept_of m a → Takes C.under_signature w st a r
+  pub signed_refuses : {r : Refusal} → a.signed ≡ true → Refuses wrap s t r → Refuses (take_step C.under_signature (taken_of a)) s t r
   unfolding take_step
-  signed_kept s (Moved.To u) h q = subst (Takes C.under_signature w st a) (sym q) (same_taken a _ (yes_went (ret tt) s h) (λ N. refl))
-  signed_kept s (Moved.Refused x) h q = subst (Takes C.under_signature w st a) (sym q) (refuses _ (yes_refuses (ret tt) s h))
+  signed_refuses q h = refuses _ (yes_refuses (ret tt) q h)
 
-  pub unsigned_kept : a.signed ≡ false → Takes C.under_signature w st a (Taking.Went a st)
-  unfolding take_step
-  unsigned_kept s = same_taken a _ (no_went wrap s (stays tt)) (λ N. refl)
+pub unsigned : {s : Entries} (a : Taken) → a.signed ≡ false → Goes (take_step C.under_signature (taken_of a)) false s a s a
+unfolding take_step
+unsigned a q = unchanged a (no_went wrap q (stays tt)) _ refl
 
-module _ {w : List ℕ} {st s : State} (a : Taken) where
-  pub labels_none : Went (C.took K.empty_list) w st 1 1 true s → Takes C.labels w st a (Taking.Went a s)
-  unfolding take_step
-  labels_none h = same_taken a _ h (λ N. refl)
+pub ahead : {s : Entries} (a : Taken) {b : Taken} → taken_of b ≡ C.taken 0 a.count a.signed → Goes (take_step C.printed_ahead (taken_of a)) false s a s b
+unfolding take_step
+ahead {s} a {b} q =
+    let m : b.size ≡ 0 = ap (λ (x : C.Taken). x.size) q in
+    let n : b.count ≡ a.count = ap (λ (x : C.Taken). x.count) q in
+    record {
+      is = ap (λ (x : C.Taken). ok x (machine_of s)) (sym q);
+      depth = omega arith;
+      size = omega (arith, m);
+      small = λ x. omega (arith, n);
+      count = λ x. omega (arith, n);
+      seen = refl;
+      total = refl;
+      unwritten = refl;
+      lent = record { name = refl; ceiling = refl };
+    }
 
-  pub labels_kept : Went (C.took K.empty_list) w st 0 0 false s → (m : Moved) → Moving (C.labels_from a.count) w s m → {r : Taking} → r ≡ kept_of m a → Takes C.labels w st a r
+-- MARKERS, whether they were there or not
+module _ {s t : Entries} {l m : ℕ} {b : Bool} (a : Taken) where
+  pub qualified : Went (looked K.is_protocol) s t l m b → Goes (take_step C.qualifier (taken_of a)) false s a t a
   unfolding take_step
-  labels_kept h (Moved.To u) g q = subst (Takes C.labels w st a) (sym q) (record {
-    is = λ N. on h N _ ∙ on g N _;
+  qualified h =
+      let g = unchanged a h (λ x. ret (taken_of a)) refl in
+      record {
+        is = sym (assoc (C.try K.is_protocol (machine_of s)) (λ o. ret (is_some o)) (λ x. ret (taken_of a))) ∙ g.is;
+        depth = g.depth;
+        size = g.size;
+        small = g.small;
+        count = g.count;
+        seen = g.seen;
+        total = g.total;
+        unwritten = g.unwritten;
+        lent = g.lent;
+      }
+
+-- LABELS
+module _ {s t u : Entries} (a : Taken) (h : Went (C.took K.empty_list) s t 0 0 false) where
+  pub labelled : Went (C.labels_from a.count) t u 0 0 tt → Goes (take_step C.labels (taken_of a)) false s a u a
+  unfolding take_step
+  labelled g = record {
+    is = on h _ ∙ on g _;
     depth = omega (arith, h.depth, g.depth);
     size = omega (arith, h.lighter, g.lighter);
     small = λ x. x;
     count = λ x. omega (arith, h.depth, g.depth);
     seen = g.seen ∙ h.seen;
     total = g.total ∙ h.total;
-  })
-  labels_kept h (Moved.Refused x) g q = subst (Takes C.labels w st a) (sym q) (next_refuses _ h (refuses _ g))
+    unwritten = g.unwritten ∙ h.unwritten;
+    lent = lent_both h.lent g.lent;
+  }
 
--- MARKERS, whether they were there or not
-module _ {w : List ℕ} {st s : State} {l m : ℕ} {b : Bool} (a : Taken) where
-  pub marker_kept : (k : ℕ) → Went (C.took k) w st l m b s → Takes (C.marker k) w st a (Taking.Went a s)
+  pub labels_refuse : {r : Refusal} → Refuses (C.labels_from a.count) t u r → Refuses (take_step C.labels (taken_of a)) s u r
   unfolding take_step
-  marker_kept k h = same_taken a _ h (λ N. refl)
-
-  pub qualifier_kept : Went (looked K.is_protocol) w st l m b s → Takes C.qualifier w st a (Taking.Went a s)
-  unfolding take_step
-  qualifier_kept h = goes_is (λ N. sym (assoc (C.try K.is_protocol (machine_of w N st)) (λ o. ret (is_some o)) (λ x. ret (taken_of a)))) (same_taken a (λ x. ret (taken_of a)) h (λ N. refl))
+  labels_refuse g = next_refuses _ h (refuses _ g)
 
 -- LISTS
-list_goes : {A : Type 0} {f : Check A} {F : Check C.Taken} {w : List ℕ} {st s u : State} {l m : ℕ} {x : A} {a b : Taken} → Went f w st l m x s → Gathered w s a b u → Ready true w st a → ((N : ℕ) → F (machine_of w N st) ≡ ok (taken_of b) (machine_of w N u)) → Goes F false w st a b u
+list_goes : {A : Type 0} {f : Check A} {F : Check C.Taken} {s t u : Entries} {l m : ℕ} {x : A} {a b : Taken} → Went f s t l m x → Gathered t a u b → Ready true s a → F (machine_of s) ≡ ok (taken_of b) (machine_of u) → Goes F false s a u b
 list_goes h g r q = record {
   is = q;
   depth = omega (arith, h.depth, g.depth);
@@ -164,34 +224,38 @@ list_goes h g r q = record {
   count = λ x. omega (arith, h.depth, g.count);
   seen = g.seen ∙ h.seen;
   total = g.total ∙ h.total;
+  unwritten = g.unwritten ∙ h.unwritten;
+  lent = lent_both h.lent g.lent;
 }
 
-module _ {w : List ℕ} {st : State} (a : Taken) where
-  pub elements_none : {s : State} → Went (C.took K.empty_list) w st 1 1 true s → Takes C.elements w st a (Taking.Went a s)
-  unfolding take_step rounds
-  elements_none h = same_taken a _ h (λ N. refl)
-
-  pub members_none : {s : State} → Went (C.took K.empty_list) w st 1 1 true s → Takes C.members w st a (Taking.Went a s)
-  unfolding take_step rounds
-  members_none h = same_taken a _ h (λ N. refl)
-
-  module _ (ready : Ready true w st a) where
-    pub elements_all : {s : State} → Went (C.took K.empty_list) w st 0 0 false s → (r : Taking) → Gathering (all_of Series.Elements (taken_of a)) w s a r → Takes C.elements w st a r
+module _ {s t : Entries} (u : Entries) (a : Taken) (ready : Ready true s a) where
+  module _ (h : Went (C.took K.empty_list) s t 0 0 false) where
+    pub elements_all : (r : Result Taken Refusal) → Gathering (all_of C.elements_from (taken_of a)) t a u r → Takes C.elements s a u r
     unfolding take_step
-    elements_all h (Taking.Went b u) g = list_goes h g.gathered ready (λ N. on h N _ ∙ g.is N)
-    elements_all h (Taking.Refused x) g = next_refuses _ h g
+    elements_all (Ok b) g = list_goes h g.gathered ready (on h _ ∙ g.is)
+    elements_all (Err x) g = next_refuses _ h g
 
-    pub members_all : {s : State} → Went (C.took K.empty_list) w st 0 0 false s → (r : Taking) → Gathering (all_of Series.Members (taken_of a)) w s a r → Takes C.members w st a r
+    pub members_all : (r : Result Taken Refusal) → Gathering (all_of C.members_from (taken_of a)) t a u r → Takes C.members s a u r
     unfolding take_step
-    members_all h (Taking.Went b u) g = list_goes h g.gathered ready (λ N. on h N _ ∙ g.is N)
-    members_all h (Taking.Refused x) g = next_refuses _ h g
+    members_all (Ok b) g = list_goes h g.gathered ready (on h _ ∙ g.is)
+    members_all (Err x) g = next_refuses _ h g
 
-    pub arguments_all : (r : Taking) → Gathering (all_of Series.Arguments (taken_of a)) w st a r → Takes C.arguments w st a r
-    unfolding take_step
-    arguments_all (Taking.Went b u) g = list_goes (stays {A = Done} tt) g.gathered ready g.is
-    arguments_all (Taking.Refused x) g = g
+module _ {s : Entries} (u : Entries) (a : Taken) (ready : Ready true s a) where
+  pub arguments_all : (r : Result Taken Refusal) → Gathering (all_of C.arguments_from (taken_of a)) s a u r → Takes C.arguments s a u r
+  unfolding take_step
+  arguments_all (Ok b) g = list_goes (stays {A = Done} tt) g.gathered ready g.is
+  arguments_all (Err x) g = g
 
-    pub requirements_all : (r : Taking) → Gathering (all_of Series.Requirements (taken_of a)) w st a r → Takes C.requirements w st a r
-    unfolding take_step
-    requirements_all (Taking.Went b u) g = list_goes (stays {A = Done} tt) g.gathered ready g.is
-    requirements_all (Taking.Refused x) g = g
+  pub requirements_all : (r : Result Taken Refusal) → Gathering (all_of C.requirements_from (taken_of a)) s a u r → Takes C.requirements s a u r
+  unfolding take_step
+  requirements_all (Ok b) g = list_goes (stays {A = Done} tt) g.gathered ready g.is
+  requirements_all (Err x) g = g
+
+-- an empty list
+pub none_elements : {s t : Entries} (a : Taken) → Went (C.took K.empty_list) s t 1 1 true → Goes (take_step C.elements (taken_of a)) false s a t a
+unfolding take_step rounds
+none_elements a h = unchanged a h _ refl
+
+pub none_members : {s t : Entries} (a : Taken) → Went (C.took K.empty_list) s t 1 1 true → Goes (take_step C.members (taken_of a)) false s a t a
+unfolding take_step rounds
+none_members a h = unchanged a h _ refl

@@ -1,2 +1,3 @@
+pub mod Taken
 pub mod ListRounds
-pub mod Sums
+pub mod Takes

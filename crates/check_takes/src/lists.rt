@@ -1,149 +1,132 @@
 // The lists on the stack of the shape check.
-ghost use Rattle.std.specs.Prelude.{◌≡◌, ◌^◌, ◌≤◌, ◌<◌};
+ghost use Rattle.std.specs.Prelude.{◌≡◌, ◌≤◌, ◌<◌, ℕ};
 ghost use Rattle.definition.specs.Shape as C;
-ghost use Rattle.check_entries.specs.Lies.{entry_of, taken_of, Held};
-ghost use Rattle.check_takes.specs.ListRounds.{ArgumentMark, from_of, all_of, ended_of, Adds, Rounding, Gathering};
+ghost use Rattle.definition.specs.Shape.{Check};
+ghost use Rattle.check_entries.specs.Lies.{Held};
+ghost use Rattle.check_entries.specs.EntriesTaken.{Moving};
+ghost use Rattle.check_takes.specs.Taken.{taken_of};
+ghost use Rattle.check_takes.specs.ListRounds.{one_label, all_of, Adds, Rounding, Gathering};
 
-use check_entries::{Entry, Popped, State, Taken, Taking, Tried, pop_if, protocol, took, try_take};
+use crate::sums::Taken;
+use check_entries::Entries;
 use definition::Refusal;
-use machine::kinds::Want;
+use machine::kinds::{Kind, Want};
+use std::ops::ControlFlow;
 
-// The kinds of lists on the stack.
-#[derive(Clone, Copy)]
-pub enum Series {
-    Elements,
-    Members,
-    Arguments,
-    Requirements,
-}
-
-// One round of a list: it was the last, or there are more.
-#[derive(Clone, Copy)]
-pub enum Round {
-    Last(Taken, State),
-    More(Taken, State),
-    Refused(Refusal),
-}
-
-// Adds one entry, which is counted.
-fn add_counted(a: Taken, e: Entry) -> Taken
-    requires { (a.size ≤ 2 ^ 20) × (a.count < 2 ^ 32) }
-    ensures { taken_of result ≡ C.add_counted (entry_of e) (taken_of a) }
+// Takes one label, or the marker for none.
+fn label(entries: &mut Entries) -> Result<(), Refusal>
+    requires { Held entries.old }
+    ensures { Moving one_label entries.old entries.new result }
 {
-    Taken {
-        size: e.size as usize + a.size,
-        count: a.count + 1,
-        signed: a.signed,
+    let e = entries.pop()?;
+    if e.kind != Kind::Identifier as u32 && e.kind != Kind::FirstElementMarker as u32 {
+        return Err(Refusal::Stack);
     }
+    Ok(())
 }
 
-fn ended(last: bool, a: Taken, next: State) -> Round
-    ensures { result ≡ ended_of last a next }
+// Takes that many labels.
+pub fn labels(entries: &mut Entries, count: usize) -> Result<(), Refusal>
+    requires { Held entries.old }
+    ensures { Moving (C.labels_from count) entries.old entries.new result }
 {
-    if last {
-        return Round::Last(a, next);
+    for _ in 0..count {
+        label(entries)?;
     }
-    Round::More(a, next)
+    Ok(())
 }
 
-// Takes a type with its markers and its label.
-fn element(ws: &[u32], st: State, a: Taken) -> Round
-    requires { Adds ws.now st a }
-    ensures { Rounding C.elements_from ws.now st a result }
-{
-    let first = took(ws, st, Want::Kind(31));
-    let past_first = first.next;
-    let variadic = took(ws, past_first, Want::Kind(32));
-    let past_variadic = variadic.next;
-    let label = took(ws, past_variadic, Want::Identifier);
-    let past_label = label.next;
-    match pop_if(ws, past_label, Want::Type) {
-        Popped::Top(e, next) => ended(first.taken, add_counted(a, e), next),
-        Popped::Refused(r) => Round::Refused(r),
-    }
-}
+// A kind of list on the stack, by what one round takes: an entry, or nothing more.
+pub trait List {
+    // the definition's loop, given the bound of its rounds
+    ghost from: { ℕ → C.Taken → Check C.Taken };
 
-// Takes a protocol of a list.
-fn member(ws: &[u32], st: State, a: Taken) -> Round
-    requires { Adds ws.now st a }
-    ensures { Rounding C.members_from ws.now st a result }
-{
-    let first = took(ws, st, Want::Kind(31));
-    let past_first = first.next;
-    match protocol(ws, past_first) {
-        Popped::Top(e, next) => ended(first.taken, add_counted(a, e), next),
-        Popped::Refused(r) => Round::Refused(r),
-    }
-}
-
-// Takes what is before the arguments of a type: the empty list, or the marker between two lists of
-// arguments.
-fn argument_mark(ws: &[u32], st: State, a: Taken) -> Round
-    requires { Held ws.now st }
-    ensures { ArgumentMark ws.now st a result }
-{
-    let opened = took(ws, st, Want::Kind(30));
-    let next = opened.next;
-    if opened.taken {
-        return Round::Last(a, next);
-    }
-    match pop_if(ws, next, Want::Kind(31)) {
-        Popped::Top(_, past) => Round::More(a, past),
-        Popped::Refused(r) => Round::Refused(r),
-    }
-}
-
-fn argument(ws: &[u32], st: State, a: Taken) -> Round
-    requires { Adds ws.now st a }
-    ensures { Rounding C.arguments_from ws.now st a result }
-{
-    match try_take(ws, st, Want::Type) {
-        Tried::Top(e, next) => Round::More(add_counted(a, e), next),
-        Tried::Nothing => argument_mark(ws, st, a),
-    }
-}
-
-fn requirement(ws: &[u32], st: State, a: Taken) -> Round
-    requires { Adds ws.now st a }
-    ensures { Rounding C.requirements_from ws.now st a result }
-{
-    match try_take(ws, st, Want::Requirement) {
-        Tried::Top(e, next) => Round::More(add_counted(a, e), next),
-        Tried::Nothing => Round::Last(a, st),
-    }
-}
-
-fn round_of(ws: &[u32], st: State, a: Taken, series: Series) -> Round
-    requires { Adds ws.now st a }
-    ensures { Rounding (from_of series) ws.now st a result }
-{
-    match series {
-        Series::Elements => element(ws, st, a),
-        Series::Members => member(ws, st, a),
-        Series::Arguments => argument(ws, st, a),
-        Series::Requirements => requirement(ws, st, a),
-    }
+    // Takes what is next of the list. `Break`: it was the last.
+    fn round(entries: &mut Entries, taken: Taken) -> Result<ControlFlow<Taken, Taken>, Refusal>
+        requires { Adds entries.old taken }
+        ensures { Rounding from entries.old taken entries.new result };
 }
 
 // Takes a whole list.
-pub fn gather(ws: &[u32], st: State, a: Taken, series: Series) -> Taking
-    requires { Adds ws.now st a }
-    ensures { Gathering (all_of series (taken_of a)) ws.now st a result }
+pub fn gather<L: List>(entries: &mut Entries, taken: Taken) -> Result<Taken, Refusal>
+    requires { Adds entries.old taken }
+    ensures { Gathering (all_of L.from (taken_of taken)) entries.old taken entries.new result }
 {
-    let mut left = st;
-    let mut sum = a;
+    let mut sum = taken;
     loop {
-        match round_of(ws, left, sum, series) {
-            Round::Last(b, next) => {
-                return Taking::Went(b, next);
+        match L::round(entries, sum)? {
+            ControlFlow::Break(all) => {
+                return Ok(all);
             }
-            Round::More(b, next) => {
-                sum = b;
-                left = next;
+            ControlFlow::Continue(more) => {
+                sum = more;
             }
-            Round::Refused(r) => {
-                return Taking::Refused(r);
-            }
+        }
+    }
+}
+
+// Types with their markers and their labels.
+pub struct Elements;
+
+impl List for Elements {
+    ghost from = { C.elements_from };
+
+    fn round(entries: &mut Entries, taken: Taken) -> Result<ControlFlow<Taken, Taken>, Refusal> {
+        let last = entries.took(Want::Kind(Kind::FirstElementMarker));
+        entries.took(Want::Kind(Kind::VariadicMarker));
+        entries.took(Want::Identifier);
+        let sum = taken.add_counted(entries.pop_if(Want::Type)?);
+        if last {
+            return Ok(ControlFlow::Break(sum));
+        }
+        Ok(ControlFlow::Continue(sum))
+    }
+}
+
+// Protocols.
+pub struct Members;
+
+impl List for Members {
+    ghost from = { C.members_from };
+
+    fn round(entries: &mut Entries, taken: Taken) -> Result<ControlFlow<Taken, Taken>, Refusal> {
+        let last = entries.took(Want::Kind(Kind::FirstElementMarker));
+        let sum = taken.add_counted(entries.protocol()?);
+        if last {
+            return Ok(ControlFlow::Break(sum));
+        }
+        Ok(ControlFlow::Continue(sum))
+    }
+}
+
+// The arguments of a type, down to the empty list. A marker is between two lists of arguments.
+pub struct Arguments;
+
+impl List for Arguments {
+    ghost from = { C.arguments_from };
+
+    fn round(entries: &mut Entries, taken: Taken) -> Result<ControlFlow<Taken, Taken>, Refusal> {
+        if let Some(e) = entries.try_take(Want::Type) {
+            return Ok(ControlFlow::Continue(taken.add_counted(e)));
+        }
+        if entries.took(Want::Kind(Kind::EmptyList)) {
+            return Ok(ControlFlow::Break(taken));
+        }
+        entries.pop_if(Want::Kind(Kind::FirstElementMarker))?;
+        Ok(ControlFlow::Continue(taken))
+    }
+}
+
+// The requirements of a signature, as many as there are.
+pub struct Requirements;
+
+impl List for Requirements {
+    ghost from = { C.requirements_from };
+
+    fn round(entries: &mut Entries, taken: Taken) -> Result<ControlFlow<Taken, Taken>, Refusal> {
+        match entries.try_take(Want::Requirement) {
+            Some(e) => Ok(ControlFlow::Continue(taken.add_counted(e))),
+            None => Ok(ControlFlow::Break(taken)),
         }
     }
 }

@@ -1,13 +1,14 @@
 -- The input buffer: what is still to be answered, and the effect of reads, writes and turns on it.
 -- Assumes nothing.
-use Rattle.std.specs.Prelude.{◌≡◌, Bool, true, false, List, [], ◌++◌, ℕ, zero, suc, ◌+◌, ◌-◌, ◌^◌, ◌≤◌, ◌<◌, Result, Ok, Err, length, take, drop}
+use Rattle.std.specs.Prelude.{◌≡◌, Bool, true, false, List, [], ◌++◌, ℕ, ◌+◌, ◌-◌, ◌≤◌, ◌<◌, eqb, Option, Result, Ok, Err, length, take, drop}
+use Rattle.std.specs.Io.KnownBytes.{Consumes}
 use Rattle.definition.specs.Text.{Text}
 use Rattle.text_parts.specs.Copied.{part}
 use Rattle.line_forms.specs.Lines.{owed}
 use Rattle.line_buffers.specs.declared.Next.{Next}
 use Rattle.line_buffers.specs.declared.Turn.{Turn}
 use Rattle.line_buffers.specs.declared.State.{State}
-use Rattle.line_buffers.specs.declared.Got.{Got}
+use Rattle.line_buffers.specs.declared.Failure.{Failure}
 use Rattle.line_buffers.specs.declared.Rest.{Rest}
 
 -- A LINE WITH NO NEWLINE
@@ -35,8 +36,6 @@ abbrev pub Goes : (Text → List ℕ) → Text → (ended : Bool) → Turn → N
 Goes line t ended r Next.Read = (ended ≡ false) × (length t ≤ r.read + 4096)
 Goes line t ended r Next.Answer = 0 < r.read
 Goes line t ended r Next.Done = (ended ≡ true) × (owed line r.inside (drop r.read t) ≡ [])
-Goes line t ended r Next.ReadFailed = ⊥
-Goes line t ended r Next.WriteFailed = ⊥
 
 -- What is owed for t, whatever follows it, is what was written to the front of the output slice and
 -- what is owed for the rest of t.
@@ -66,56 +65,34 @@ pub record Holds (l : List ℕ) (s : State) : Type 0 where
   pub within : s.end ≤ length l
   pub asks : s.next ≡ Next.Read → (s.ended ≡ false) × (s.end ≤ s.from + 4096)
 
--- READS AND WRITES
--- a read returns an error, or the number of bytes that it stored, 0 at the end of the input
-abbrev pub heard_of : {E : Type 0} → Result ℕ E → Got
-heard_of (Ok zero) = Got.Ended
-heard_of (Ok (suc n)) = Got.Bytes (suc n)
-heard_of (Err e) = Got.Failed
-
--- What is kept is moved to the front, and what was read is stored after it. After a failed read the
--- program stops and answers nothing more: what is kept may be a part of a line.
-abbrev pub after_read : State → Got → State
-after_read b (Got.Bytes n) = record { from = 0; end = b.end - b.from + n; inside = b.inside; ended = false; written = 0; next = Next.Answer }
-after_read b Got.Ended = record { from = 0; end = b.end - b.from; inside = b.inside; ended = true; written = 0; next = Next.Answer }
-after_read b Got.Failed = record { from = 0; end = b.end - b.from; inside = b.inside; ended = false; written = 0; next = Next.ReadFailed }
-
--- the end of what is kept and read is a number of the code
-abbrev pub Fits : State → Got → Type 0
-Fits b (Got.Bytes n) = b.end - b.from + n < 2 ^ 63
-Fits b Got.Ended = Unit {0}
-Fits b Got.Failed = Unit {0}
-
--- after a failed write the program stops
-abbrev pub after_write : (wrote : Bool) → Next → Next
-after_write true next = next
-after_write false next = Next.WriteFailed
-
--- the program stops
-abbrev pub stops : Next → Bool
-stops Next.Read = false
-stops Next.Answer = false
-stops Next.Done = true
-stops Next.ReadFailed = true
-stops Next.WriteFailed = true
+-- READS
+-- What is kept is moved to the front, and the n bytes that were read are stored after it. A read of
+-- no bytes is the end of the input
+abbrev pub after_read : State → ℕ → State
+after_read b n = record { from = 0; end = b.end - b.from + n; inside = b.inside; ended = eqb n 0; written = 0; next = Next.Answer }
 
 -- one read, after the bytes that are kept
-pub record Fetched (l l' : List ℕ) (b r : State) : Type 0 where
-  pub got : Got
-  pub is : r ≡ after_read b got
-  pub within : r.end ≤ length l'
+pub record Fetched (r r' : Option (List ℕ)) (l l' : List ℕ) (b s : State) : Type 0 where
+  pub count : ℕ
+  pub is : s ≡ after_read b count
+  pub within : s.end ≤ length l'
   pub same : take (b.end - b.from) l' ≡ kept l b
+  pub read : Consumes r r' (part l' (b.end - b.from) s.end)
 
-abbrev pub Filling : Next → (l l' : List ℕ) (b r : State) → Type 0
-Filling Next.Read l l' b r = Fetched l l' b r
-Filling Next.Answer l l' b r = (l' ≡ l) × (r ≡ b)
-Filling Next.Done l l' b r = (l' ≡ l) × (r ≡ b)
-Filling Next.ReadFailed l l' b r = (l' ≡ l) × (r ≡ b)
-Filling Next.WriteFailed l l' b r = (l' ≡ l) × (r ≡ b)
+-- a failed read: what is kept is at the front
+abbrev pub Failing : (l l' : List ℕ) (b : State) → Failure → Type 0
+Failing l l' b f = (f ≡ Failure.Read) × (take (b.end - b.from) l' ≡ kept l b)
 
-pub record Filled (l l' : List ℕ) (b r : State) : Type 0 where
+abbrev pub Filling : Next → (r r' : Option (List ℕ)) (l l' : List ℕ) (b : State) → Result State Failure → Type 0
+Filling Next.Read r r' l l' b (Ok s) = Fetched r r' l l' b s
+Filling Next.Read r r' l l' b (Err f) = Failing l l' b f
+Filling Next.Answer r r' l l' b s = (r' ≡ r) × (l' ≡ l) × (s ≡ Ok b)
+Filling Next.Done r r' l l' b s = (r' ≡ r) × (l' ≡ l) × (s ≡ Ok b)
+
+-- a buffer before and after, with what is left of the input where it is known
+pub record Filled {R : Type 0} (remaining : R → Option (List ℕ)) (i i' : R) (l l' : List ℕ) (b : State) (s : Result State Failure) : Type 0 where
   pub long : length l' ≡ length l
-  pub filling : Filling b.next l l' b r
+  pub filling : Filling b.next (remaining i) (remaining i') l l' b s
 
 -- A STEP: a read if the state requires it, a turn, a write
 -- where the bytes that are not answered begin after the read
@@ -123,16 +100,12 @@ abbrev pub begins : Next → State → ℕ
 begins Next.Read b = 0
 begins Next.Answer b = b.from
 begins Next.Done b = b.from
-begins Next.ReadFailed b = b.from
-begins Next.WriteFailed b = b.from
 
 -- the bytes that the read stored: those after the bytes that were kept
 abbrev pub fetched : Next → (l' : List ℕ) → State → (end : ℕ) → Text
 fetched Next.Read l' b end = part l' (b.end - b.from) end
 fetched Next.Answer l' b end = []
 fetched Next.Done l' b end = []
-fetched Next.ReadFailed l' b end = []
-fetched Next.WriteFailed l' b end = []
 
 -- What is owed for the bytes that were kept before the step, followed by those that it read and by
 -- u, is what the step wrote and what is owed for the bytes that are kept after it, followed by u.
@@ -145,6 +118,15 @@ pub record Stepped (line : Text → List ℕ) (l l' o' : List ℕ) (b r : State)
   pub ended : b.ended ≡ true → (r.ended ≡ true) × (fetched b.next l' b r.end ≡ [])
   pub onward : r.next ≡ Next.Answer → begins b.next b < r.from
   pub done : r.next ≡ Next.Done → (r.ended ≡ true) × (due line l' r [] ≡ [])
+
+-- the bytes that the step read are the input's next ones, where these are known
+abbrev pub Reading : Next → (i i' : Option (List ℕ)) → Text → Type 0
+Reading Next.Read i i' t = Consumes i i' t
+Reading Next.Answer i i' t = i' ≡ i
+Reading Next.Done i i' t = i' ≡ i
+
+abbrev pub Took : (remaining remaining' : Option (List ℕ)) → (l' : List ℕ) → (b r : State) → Type 0
+Took i i' l' b r = Reading b.next i i' (fetched b.next l' b r.end)
 
 -- A RUN
 -- Steps one after another, up to one after which nothing is owed; all that they read and all that

@@ -5,30 +5,46 @@
 // writes the slice.
 #![tactic(auto)]
 
-ghost use Rattle.std.specs.Prelude.{◌≡◌, ◌≤◌, ◌<◌, ◌^◌, length};
-ghost use Rattle.text_parts.specs.Copied.{copied};
+ghost use Rattle.std.specs.Prelude.{◌≡◌, ◌+◌, ◌-◌, ◌≤◌, ◌<◌, ◌^◌, length};
 ghost use Rattle.line_forms.specs.Lines.{Clear};
-ghost use Rattle.line_buffers.specs.Buffers.{Resting, Passing, Holds, heard_of, Fits, after_read, after_write, Filled, start, stops};
+ghost use Rattle.line_buffers.specs.Buffers.{Resting, Passing, Holds, after_read, Filled, start};
 
 use line_forms::LINE;
 use line_forms::ends::line_end;
-use std::io;
-use std::io::{Read, Write};
+use std::error::Error;
+use std::fmt;
+use std::io::Read;
 
 // What is done next: input is read; the contents of the buffer are answered; or nothing, because
-// all is answered, or because a read or a write failed.
-#[derive(Clone, Copy)]
+// all is answered.
+#[derive(Clone, Copy, Debug, PartialEq, Eq)]
 pub enum Next {
     Read,
     Answer,
     Done,
-    ReadFailed,
-    WriteFailed,
 }
+
+// What stops a program before all is answered.
+#[derive(Clone, Copy, Debug, PartialEq, Eq)]
+pub enum Failure {
+    Read,
+    Write,
+}
+
+impl fmt::Display for Failure {
+    fn fmt<W: fmt::Write>(&self, f: &mut fmt::Formatter<W>) -> fmt::Result {
+        match self {
+            Failure::Read => write!(f, "standard input cannot be read"),
+            Failure::Write => write!(f, "standard output cannot be written"),
+        }
+    }
+}
+
+impl Error for Failure {}
 
 // How much of a text was read and how many bytes its answers have; whether the rest of the text
 // continues a line that is already answered; and what is done next.
-#[derive(Clone, Copy)]
+#[derive(Clone, Copy, Debug)]
 pub struct Turn {
     pub read: usize,
     pub written: usize,
@@ -39,7 +55,7 @@ pub struct Turn {
 // A program between two steps. The bytes of the buffer from `from` to `end` are not answered yet.
 // `inside`: they continue a line that is already answered. `ended`: nothing follows them.
 // `written`: how many bytes of the output slice were written last.
-#[derive(Clone, Copy)]
+#[derive(Clone, Copy, Debug)]
 pub struct State {
     pub from: usize,
     pub end: usize,
@@ -49,17 +65,41 @@ pub struct State {
     pub next: Next,
 }
 
-// The result of a read.
-#[derive(Clone, Copy)]
-pub enum Got {
-    Bytes(usize),
-    Ended,
-    Failed,
+impl State {
+    // Returns the state before the first step: nothing is read yet.
+    pub fn fresh() -> State
+        ensures { result ≡ start }
+    {
+        State {
+            from: 0,
+            end: 0,
+            inside: false,
+            ended: false,
+            written: 0,
+            next: Next::Read,
+        }
+    }
+
+    // Returns the state after a read of n bytes, which are answered next; at the end of the input n
+    // is 0, and the bytes that were kept are answered.
+    fn after_read(self, n: usize) -> State
+        requires { (self.from ≤ self.end) × (self.end - self.from + n < 2 ^ 63) }
+        ensures { result ≡ after_read self n }
+    {
+        State {
+            from: 0,
+            end: self.end - self.from + n,
+            ended: n == 0,
+            written: 0,
+            next: Next::Answer,
+            ..self
+        }
+    }
 }
 
 // A line that has no newline in the buffer: it is the last one; it is longer than any line that is
 // read; more of it has to be read first; or there is none, because the input has ended.
-#[derive(Clone, Copy)]
+#[derive(Clone, Copy, Debug, PartialEq, Eq)]
 pub enum Rest {
     Last,
     Long,
@@ -73,10 +113,10 @@ pub fn rest_of(text: &[u8], ended: bool) -> Rest
     ensures { Resting text.now ended result }
 {
     if ended {
-        if 0 < text.len() {
-            return Rest::Last;
+        if text.is_empty() {
+            return Rest::Nothing;
         }
-        return Rest::Nothing;
+        return Rest::Last;
     }
     if LINE < text.len() {
         return Rest::Long;
@@ -97,138 +137,25 @@ pub fn passed(text: &[u8], ended: bool) -> Turn
             next: Next::Answer,
         };
     }
-    if ended {
-        return Turn {
-            read: end,
-            written: 0,
-            inside: true,
-            next: Next::Done,
-        };
-    }
     Turn {
         read: end,
         written: 0,
         inside: true,
-        next: Next::Read,
-    }
-}
-
-// Moves the bytes from `from` to `to` to the front. The bytes after them stay.
-fn keep(input: &mut [u8], from: usize, to: usize)
-    requires { (from ≤ to) × (to ≤ length input.old) }
-    ensures { input.new ≡ copied input.old 0 input.old from to }
-{
-    let n = to - from;
-    let mut i = 0;
-    while i < n {
-        input[i] = input[from + i];
-        i += 1;
-    }
-}
-
-// A read returns an error where it fails, and 0 at the end of the input.
-fn heard(got: io::Result<usize>) -> Got
-    ensures { result ≡ heard_of got }
-{
-    match got {
-        Ok(0) => Got::Ended,
-        Ok(n) => Got::Bytes(n),
-        Err(_) => Got::Failed,
-    }
-}
-
-// Returns the state after a read: the bytes that were read are answered next; at the end of the
-// input, the bytes that were kept; if the read failed, the program stops.
-fn came(before: State, got: Got) -> State
-    requires { (before.from ≤ before.end) × Fits before got }
-    ensures { result ≡ after_read before got }
-{
-    let have = before.end - before.from;
-    match got {
-        Got::Bytes(n) => State {
-            from: 0,
-            end: have + n,
-            inside: before.inside,
-            ended: false,
-            written: 0,
-            next: Next::Answer,
-        },
-        Got::Ended => State {
-            from: 0,
-            end: have,
-            inside: before.inside,
-            ended: true,
-            written: 0,
-            next: Next::Answer,
-        },
-        Got::Failed => State {
-            from: 0,
-            end: have,
-            inside: before.inside,
-            ended: false,
-            written: 0,
-            next: Next::ReadFailed,
-        },
+        next: if ended { Next::Done } else { Next::Read },
     }
 }
 
 // Reads once, if input is to be read. The bytes that are not answered are moved to the front, and
 // the bytes that are read are stored after them.
-pub fn fill<R: Read>(stdin: &mut R, input: &mut [u8], before: State) -> State
+pub fn fill<R: Read>(stdin: &mut R, input: &mut [u8], before: State) -> Result<State, Failure>
     requires { Holds input.old before × (4096 < length input.old) × (length input.old < 2 ^ 63) }
-    ensures { Filled input.old input.new before result }
+    ensures { Filled R.remaining stdin.old stdin.new input.old input.new before result }
 {
-    let next = before.next;
-    let Next::Read = next else {
-        return before;
-    };
-    let from = before.from;
-    let end = before.end;
-    let have = end - from;
-    keep(input, from, end);
-    let got = stdin.read(&mut input[have..]);
-    came(before, heard(got))
-}
-
-// Returns what is done after a write: if the write failed, the program stops.
-pub fn decided(wrote: bool, next: Next) -> Next
-    ensures { result ≡ after_write wrote next }
-{
-    if !wrote {
-        return Next::WriteFailed;
+    if before.next != Next::Read {
+        return Ok(before);
     }
-    next
-}
-
-// Returns the state before the first step: nothing is read yet.
-pub fn fresh() -> State
-    ensures { result ≡ start }
-{
-    State {
-        from: 0,
-        end: 0,
-        inside: false,
-        ended: false,
-        written: 0,
-        next: Next::Read,
-    }
-}
-
-// Whether the program stops. A failure is reported on standard error.
-pub fn stopped<W: Write>(stderr: &mut W, next: Next) -> bool
-    ensures { result ≡ stops next }
-{
-    match next {
-        Next::Read => false,
-        Next::Answer => false,
-        Next::Done => true,
-        Next::ReadFailed => {
-            let _ = stderr.write_all(b"standard input cannot be read\n");
-            true
-        }
-        Next::WriteFailed => {
-            let _ = stderr.write_all(b"standard output cannot be written\n");
-            true
-        }
-    }
+    let have = before.end - before.from;
+    input.copy_within(before.from..before.end, 0);
+    let n = stdin.read(&mut input[have..]).map_err(|_| Failure::Read)?;
+    Ok(before.after_read(n))
 }

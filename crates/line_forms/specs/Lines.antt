@@ -8,7 +8,6 @@ use Rattle.definition.specs.Reading.{demangle}
 use Rattle.definition.specs.Check.{shape}
 use Rattle.line_forms.specs.LineEnds.{newline}
 use Rattle.line_forms.specs.declared.Asked.{Asked}
-use Rattle.line_forms.specs.declared.Asked.TheVariants as Asked
 
 -- ONE LINE
 -- a tab and a number

@@ -1,23 +1,40 @@
--- The effects of the functions on slices. Assumes nothing.
+-- The effects of the functions on a sink. Assumes nothing.
 use Rattle.std.specs.Prelude.{◌≡◌, List, ◌++◌, ℕ, ◌+◌, ◌≤◌, ◌<◌, length, get_or, take, drop}
 use Rattle.definition.specs.Text.{Text}
 use Rattle.definition.specs.Calls as Calls
 use Rattle.definition.specs.Enums.{values}
 use Rattle.definition.specs.declared.Answer.{Answer}
+use Rattle.text_output.specs.declared.Sink.{Sink}
 use Rattle.line_forms.specs.LineEnds.{newline}
 use Rattle.line_forms.specs.Appends.{longest, Appends}
 use Rattle.line_forms.specs.Lines.{answers}
-use Rattle.line_stream.specs.declared.answers.Progress.{Progress}
 
--- the answer of a call, with what it writes from `at` on
-pub record Reads (a : Calls.Answer) (o o' : List ℕ) (at : ℕ) (r : Answer) : Type 0 where
+-- the room of a sink is its whole slice
+abbrev pub Whole : Sink → Type 0
+Whole s = s.room ≡ length s.out.now
+
+-- the same slice and room
+pub record Same (s s' : Sink) : Type 0 where
+  pub slice : s'.out.ghost_name ≡ s.out.ghost_name
+  pub room : s'.room ≡ s.room
+
+-- the answer of a call, with what it writes from the place of the sink on
+pub record Reads (a : Calls.Answer) (s s' : Sink) (r : Answer) : Type 0 where
+  pub same : Same s s'
+  pub at : s'.at ≡ s.at
   pub values : values r ≡ a.values
-  pub written : o' ≡ take at o ++ a.written ++ drop (at + length a.written) o
+  pub written : s'.out.now ≡ take s.at s.out.now ++ a.written ++ drop (s.at + length a.written) s.out.now
 
--- the lines up to p.read are answered, each with its newline, up to p.written; while there is
--- room, all lines that have a newline are answered
-pub record Answered (line : Text → List ℕ) (t : Text) (o o' : List ℕ) (p : Progress) : Type 0 where
-  pub inside : p.read ≤ length t
-  pub appends : Appends o o' 0 (answers line (take p.read t)) p.written
-  pub whole : (u : Text) → answers line (take p.read t ++ u) ≡ answers line (take p.read t) ++ answers line u
-  pub all : p.written + longest ≤ length o → (i : ℕ) → p.read ≤ i → i < length t → (get_or t i 0 ≡ newline → ⊥)
+-- an answer line is appended within the slice
+pub record Answers (s s' : Sink) (line : List ℕ) : Type 0 where
+  pub same : Same s s'
+  pub appends : Appends s.out.now s'.out.now s.at line s'.at
+
+-- the lines up to `read` are answered, each with its newline, at the front of the slice; while
+-- there is room, all lines that have a newline are answered
+pub record Answered (line : Text → List ℕ) (t : Text) (s s' : Sink) (read : ℕ) : Type 0 where
+  pub same : Same s s'
+  pub inside : read ≤ length t
+  pub appends : Appends s.out.now s'.out.now 0 (answers line (take read t)) s'.at
+  pub whole : (u : Text) → answers line (take read t ++ u) ≡ answers line (take read t) ++ answers line u
+  pub all : s'.at + longest ≤ length s.out.now → (i : ℕ) → read ≤ i → i < length t → (get_or t i 0 ≡ newline → ⊥)

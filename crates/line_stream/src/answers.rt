@@ -1,18 +1,16 @@
 // The answers of the programs `names` and `shapes`: for one line, and for the lines of a buffer
 // (line_forms/specs/Lines.antt).
 ghost use Rattle.std.specs.Prelude.{◌≡◌, ◌+◌, ◌≤◌, ◌<◌, ◌^◌, length};
-ghost use Rattle.definition.specs.Calls as Calls;
 ghost use Rattle.definition.specs.Check as Check;
-ghost use Rattle.definition.specs.Enums.{values};
 ghost use Rattle.definition.specs.Reading as Reading;
-ghost use Rattle.line_forms.specs.Appends.{Space, Appends};
+ghost use Rattle.line_forms.specs.Appends.{Space};
 ghost use Rattle.line_forms.specs.Lines.{name_answer, shape_answer, line_of};
-ghost use Rattle.line_stream.specs.Does.{Reads, Answered};
+ghost use Rattle.line_stream.specs.Does.{Whole, Reads, Answers, Answered};
 
-use definition::Answer;
+use definition::{Answer, Refusal};
 use line_forms::ends::line_end;
 use line_forms::{Asked, LINE, put_counts, put_refusal};
-use text_output::put_byte;
+use text_output::Sink;
 
 const CEILING: usize = 256;
 
@@ -22,90 +20,80 @@ const TEXT: usize = 16384;
 // The longest answer: `=`, a tab, a text and a newline.
 const ANSWER: usize = 16387;
 
-// Reads a symbol, and writes its text to out, starting at `at`.
-fn read(line: &[u8], ws: &mut [u32], out: &mut [u8], at: usize) -> Answer
-    requires { (length ws.old ≡ 16384) × (at + 16384 ≤ length out.old) }
-    ensures { Reads (Reading.demangle line.now 256 16384 16384) out.old out.new at result × (length ws.new ≡ 16384) }
+// Reads a symbol, and writes its text to the sink's slice, from its place on. The place stays.
+fn read(line: &[u8], ws: &mut [u32], out: &mut Sink) -> Answer
+    requires { (length ws.old ≡ 16384) × (out.old.at + 16384 ≤ length out.old.out.now) }
+    ensures { Reads (Reading.demangle line.now 256 16384 16384) out.old out.new result × (length ws.new ≡ 16384) }
 {
-    let end = at + TEXT;
-    swift_demangle::demangle(line, CEILING, ws, &mut out[at..end])
+    let end = out.at + TEXT;
+    swift_demangle::demangle(line, CEILING, ws, &mut out.out[out.at..end])
 }
 
 // Answers a line with a symbol's text.
-fn answer_name(line: &[u8], ws: &mut [u32], out: &mut [u8], at: usize) -> usize
+fn answer_name(line: &[u8], ws: &mut [u32], out: &mut Sink)
     requires ws_len { length ws.old ≡ 16384 }
-    requires space { Space out.old at }
-    ensures { Appends out.old out.new at (name_answer (Reading.demangle line.now 256 16384 16384)) result × (length ws.new ≡ 16384) }
+    requires space { Whole out.old × Space out.old.out.now out.old.at }
+    ensures { Answers out.old out.new (name_answer (Reading.demangle line.now 256 16384 16384)) × (length ws.new ≡ 16384) }
 {
-    let room = out.len();
-    let marked = put_byte(out, at, room, b'=');
-    let from = put_byte(out, marked, room, b'\t');
-    match read(line, ws, out, from) {
-        Answer::Accepted(_, n) => put_byte(out, from + n, room, b'\n'),
+    let at = out.at;
+    out.put_byte(b'=');
+    out.put_byte(b'\t');
+    match read(line, ws, out) {
+        Answer::Accepted(_, n) => {
+            out.at += n;
+            out.put_byte(b'\n');
+        }
         // overwrites `=` and the tab
-        Answer::Refused(refusal, place) => put_refusal(
-            out,
-            at,
-            call_values::number(refusal),
-            place,
-        ),
+        Answer::Refused(refusal, place) => {
+            out.at = at;
+            put_refusal(out, call_values::number(refusal), place);
+        }
     }
 }
 
 // Answers a line with the counts of a symbol's shape check.
-fn answer_shape(line: &[u8], ws: &mut [u32], out: &mut [u8], at: usize) -> usize
+fn answer_shape(line: &[u8], ws: &mut [u32], out: &mut Sink)
     requires ws_len { length ws.old ≡ 16384 }
-    requires space { Space out.old at }
-    ensures { Appends out.old out.new at (shape_answer (Check.shape line.now 256 16384).values) result × (length ws.new ≡ 16384) }
+    requires space { Whole out.old × Space out.old.out.now out.old.at }
+    ensures { Answers out.old out.new (shape_answer (Check.shape line.now 256 16384).values) × (length ws.new ≡ 16384) }
 {
     match swift_shape::shape(line, CEILING, ws) {
-        Answer::Accepted(counts, _) => put_counts(out, at, counts),
-        Answer::Refused(refusal, place) => put_refusal(
-            out,
-            at,
-            call_values::number(refusal),
-            place,
-        ),
+        Answer::Accepted(counts, _) => put_counts(out, counts),
+        Answer::Refused(refusal, place) => put_refusal(out, call_values::number(refusal), place),
     }
 }
 
-// Answers a line, starting at `at`. Returns the place after the newline of the answer.
-pub fn answer_line(asked: Asked, line: &[u8], ws: &mut [u32], out: &mut [u8], at: usize) -> usize
+// Answers a line.
+pub fn answer_line(asked: Asked, line: &[u8], ws: &mut [u32], out: &mut Sink)
     requires ws_len { length ws.old ≡ 16384 }
-    requires space { Space out.old at }
-    ensures { Appends out.old out.new at (line_of asked line.now) result × (length ws.new ≡ 16384) }
+    requires space { Whole out.old × Space out.old.out.now out.old.at }
+    ensures { Answers out.old out.new (line_of asked line.now) × (length ws.new ≡ 16384) }
 {
     if LINE < line.len() {
-        return put_refusal(out, at, 3, 0);
+        put_refusal(out, call_values::number(Refusal::Length), 0);
+        return;
     }
     match asked {
-        Asked::Name => answer_name(line, ws, out, at),
-        Asked::Shape => answer_shape(line, ws, out, at),
+        Asked::Name => answer_name(line, ws, out),
+        Asked::Shape => answer_shape(line, ws, out),
     }
 }
 
-// The number of bytes of the input that were answered, and the number of bytes of their answers.
-#[derive(Clone, Copy)]
-pub struct Progress {
-    pub read: usize,
-    pub written: usize,
-}
-
-// Answers the lines that end in a newline, while there is room.
-pub fn answer_lines(asked: Asked, text: &[u8], ws: &mut [u32], out: &mut [u8]) -> Progress
+// Answers the lines that end in a newline, while there is room. Returns the number of bytes of the
+// input that were answered.
+pub fn answer_lines(asked: Asked, text: &[u8], ws: &mut [u32], out: &mut Sink) -> usize
     requires ws_len { length ws.old ≡ 16384 }
-    requires out_len_bound { length out.old < 2 ^ 63 }
+    requires whole { Whole out.old × (out.old.at ≡ 0) }
     ensures { Answered (line_of asked) text.now out.old out.new result × (length ws.new ≡ 16384) }
 {
     let mut read = 0;
-    let mut written = 0;
-    while written + ANSWER <= out.len() {
+    while out.at + ANSWER <= out.out.len() {
         let end = line_end(text, read);
         if end == text.len() {
-            return Progress { read, written };
+            return read;
         }
-        written = answer_line(asked, &text[read..end], ws, out, written);
+        answer_line(asked, &text[read..end], ws, out);
         read = end + 1;
     }
-    Progress { read, written }
+    read
 }

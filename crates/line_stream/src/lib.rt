@@ -8,34 +8,24 @@
 // The answer to a line, and to the lines of a buffer.
 pub mod answers;
 
-ghost use Rattle.std.specs.Prelude.{◌≡◌, false, ◌+◌, ◌≤◌, ◌<◌, ◌^◌, length};
+ghost use Rattle.std.specs.Prelude.{◌≡◌, false, ◌+◌, ◌≤◌, ◌<◌, ◌^◌, length, take, IfOk};
+ghost use Rattle.std.specs.Io.KnownBytes.{Appends};
 ghost use Rattle.line_forms.specs.Lines.{line_of};
-ghost use Rattle.line_buffers.specs.Buffers.{Turned, Holds, Stepped, stops};
+ghost use Rattle.line_buffers.specs.Buffers.{Turned, Holds, Stepped, Took};
 
 use crate::answers::{answer_line, answer_lines};
-use line_buffers::{Next, Rest, State, Turn, decided, fill, fresh, passed, rest_of, stopped};
+use line_buffers::{Failure, Next, Rest, State, Turn, fill, passed, rest_of};
 use line_forms::Asked;
 use std::io::{Read, Write};
+use text_output::Sink;
 
 // 64 × 256 numbers.
-fn workspace() -> [u32; 16384]
-    ensures { 16384 ≡ length result }
-{
-    [0; 16384]
-}
+const WORKSPACE: usize = 16384;
 
 // 64 KB of what is read.
-fn buffer() -> [u8; 65536]
-    ensures { 65536 ≡ length result }
-{
-    [0; 65536]
-}
+const INPUT: usize = 65536;
 
-fn output() -> [u8; 131072]
-    ensures { 131072 ≡ length result }
-{
-    [0; 131072]
-}
+const OUTPUT: usize = 131072;
 
 // Answers the lines of a text that end in a newline, while there is room. If the text has no
 // newline, it is answered if it is the last line or too long; otherwise more is read first.
@@ -55,30 +45,32 @@ fn turn(
     if inside {
         return passed(text, ended);
     }
-    let p = answer_lines(asked, text, ws, out);
-    if 0 < p.read {
+    let room = out.len();
+    let mut sink = Sink { out, at: 0, room };
+    let read = answer_lines(asked, text, ws, &mut sink);
+    if 0 < read {
         return Turn {
-            read: p.read,
-            written: p.written,
+            read,
+            written: sink.at,
             inside: false,
             next: Next::Answer,
         };
     }
     match rest_of(text, ended) {
         Rest::Last => {
-            let n = answer_line(asked, text, ws, out, 0);
+            answer_line(asked, text, ws, &mut sink);
             Turn {
                 read: text.len(),
-                written: n,
+                written: sink.at,
                 inside: false,
                 next: Next::Done,
             }
         }
         Rest::Long => {
-            let n = answer_line(asked, text, ws, out, 0);
+            answer_line(asked, text, ws, &mut sink);
             Turn {
                 read: text.len(),
-                written: n,
+                written: sink.at,
                 inside: true,
                 next: Next::Read,
             }
@@ -107,30 +99,51 @@ fn step<R: Read, W: Write>(
     before: State,
     ws: &mut [u32],
     out: &mut [u8],
-) -> State
+) -> Result<State, Failure>
     requires ws_len { (length ws.old ≡ 16384) × (length out.old ≡ 131072) }
-    requires holds { Holds input.old before × (stops before.next ≡ false) × (length input.old ≡ 65536) }
-    ensures { Stepped (line_of asked) input.old input.new out.new before result × (length ws.new ≡ 16384) }
+    requires holds { Holds input.old before × (length input.old ≡ 65536) }
+    ensures stepped { IfOk result (Stepped (line_of asked) input.old input.new out.new before) × (length ws.new ≡ 16384) × (length input.new ≡ 65536) }
+    ensures read { IfOk result (Took (R.remaining stdin.old) (R.remaining stdin.new) input.new before) }
+    ensures wrote { IfOk result (λ s. Appends (W.contents stdout.old) (W.contents stdout.new) (take s.written out.new)) }
 {
-    let held = fill(stdin, input, before);
-    let asks = held.next;
-    let Next::Answer = asks else {
-        return held;
-    };
-    let from = held.from;
-    let end = held.end;
-    let t = turn(asked, &input[from..end], held.inside, held.ended, ws, out);
-    let n = t.written;
-    let next = t.next;
-    let wrote = stdout.write_all(&out[0..n]).is_ok();
-    State {
-        from: from + t.read,
-        end,
+    let held = fill(stdin, input, before)?;
+    let t = turn(
+        asked,
+        &input[held.from..held.end],
+        held.inside,
+        held.ended,
+        ws,
+        out,
+    );
+    stdout
+        .write_all(&out[..t.written])
+        .map_err(|_| Failure::Write)?;
+    Ok(State {
+        from: held.from + t.read,
         inside: t.inside,
-        ended: held.ended,
-        written: n,
-        next: decided(wrote, next),
+        written: t.written,
+        next: t.next,
+        ..held
+    })
+}
+
+// Answers each line of standard input on standard output.
+fn answer_all<R: Read, W: Write>(
+    asked: Asked,
+    stdin: &mut R,
+    stdout: &mut W,
+) -> Result<(), Failure> {
+    let mut ws = [0; WORKSPACE];
+    let mut input = [0; INPUT];
+    let mut out = [0; OUTPUT];
+    let mut state = State::fresh();
+    for _ in 0..u64::MAX {
+        state = step(asked, stdin, stdout, &mut input, state, &mut ws, &mut out)?;
+        if state.next == Next::Done {
+            return Ok(());
+        }
     }
+    Ok(())
 }
 
 // Answers each line of standard input on standard output. If a read or a write fails, it stops with
@@ -141,17 +154,7 @@ pub fn answer_input<R: Read, W: Write, E: Write>(
     stdout: &mut W,
     stderr: &mut E,
 ) {
-    let mut ws = workspace();
-    let mut input = buffer();
-    let mut out = output();
-    let mut state = fresh();
-    let mut steps: u64 = 18446744073709551615;
-    while 0 < steps {
-        state = step(asked, stdin, stdout, &mut input, state, &mut ws, &mut out);
-        let next = state.next;
-        if stopped(stderr, next) {
-            return;
-        }
-        steps -= 1;
+    if let Err(failure) = answer_all(asked, stdin, stdout) {
+        let _ = writeln!(stderr, "{failure}");
     }
 }

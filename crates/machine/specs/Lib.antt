@@ -1,4 +1,5 @@
 pub mod Spent
 pub mod Beyond
+pub mod Kinds
 pub mod Wanted
 pub mod RunEnds

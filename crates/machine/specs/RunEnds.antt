@@ -1,11 +1,8 @@
 -- What is accepted at the end of a run, and the output slice of a stopped run.
-use Rattle.std.specs.Prelude.{◌≡◌, Bool, List, ◌++◌, ℕ, ◌≤◌, ◌<◌, length, drop}
+use Rattle.std.specs.Prelude.{◌≡◌, Bool, List, ◌++◌, ℕ, ◌≤◌, ◌<◌, length, drop, Option, Some, None}
 use Rattle.definition.specs.Kind as K
 use Rattle.definition.specs.Calls.{symbol_kind}
 use Rattle.machine.specs.declared.runs.Final.{Final}
-use Rattle.machine.specs.declared.runs.Final.TheVariants as Final
-use Rattle.machine.specs.declared.runs.Written.{Written}
-use Rattle.machine.specs.declared.runs.Written.TheVariants as Written
 
 -- the kinds that a call accepts
 abbrev pub kinds_of : Final → ℕ → Bool
@@ -23,6 +20,7 @@ pub record TooMany (xs out out₁ : List ℕ) : Type 0 where
   pub past : length out < length xs
   pub same : out₁ ≡ out
 
-abbrev pub Writing : List ℕ → (out out₁ : List ℕ) → Written → Type 0
-Writing xs out out₁ (Written.Numbers n) = Front xs out out₁ n
-Writing xs out out₁ Written.Past = TooMany xs out out₁
+-- how many numbers were written, or none where there are more than the slice holds
+abbrev pub Writing : List ℕ → (out out₁ : List ℕ) → Option ℕ → Type 0
+Writing xs out out₁ (Some n) = Front xs out out₁ n
+Writing xs out out₁ None = TooMany xs out out₁

@@ -6,20 +6,14 @@ ghost use Rattle.machine.specs.Spent.{Spending, budget_of};
 use definition::Refusal;
 
 // The number of turns of `run`, the sum of all charges, and the number of wraps.
-#[derive(Clone, Copy)]
+#[derive(Clone, Copy, Debug, PartialEq, Eq)]
 pub struct Budget {
     pub steps: usize,
     pub total: usize,
     pub wraps: usize,
 }
 
-// The budget after a count was increased.
-#[derive(Clone, Copy)]
-pub enum Spent {
-    Left(Budget),
-    Refused(Refusal),
-}
-
+#[tactic(auto, using(crate::proofs::budget::Charging::copies_le), unfolding(definition::specs::Enums::number, definition::specs::Budget::fresh, definition::specs::Budget::step, definition::specs::Budget::charge, definition::specs::Budget::wrap))]
 impl Budget {
     pub const MOST_STEPS: usize = 4096;
 
@@ -43,60 +37,49 @@ impl Budget {
     }
 
     // Counts one more turn of `run`.
-    pub fn step(self) -> Spent
+    pub fn step(self) -> Result<Self, Refusal>
         ensures { Spending (Definition.step (budget_of self)) result }
     {
-        let steps = self.steps;
-        if steps < Budget::MOST_STEPS {
-            return Spent::Left(Budget {
-                steps: steps + 1,
-                total: self.total,
-                wraps: self.wraps,
+        if self.steps < Budget::MOST_STEPS {
+            return Ok(Budget {
+                steps: self.steps + 1,
+                ..self
             });
         }
-        Spent::Refused(Refusal::Steps)
+        Err(Refusal::Steps)
     }
 
     // Charges n nodes that are made or copied. The sum may not exceed the ceiling.
-    pub fn charge(self, ceiling: usize, n: usize) -> Spent
+    pub fn charge(self, ceiling: usize, n: usize) -> Result<Self, Refusal>
         ensures { Spending (Definition.charge ceiling n (budget_of self)) result }
     {
-        let total = self.total;
-        if total <= ceiling {
-            if n <= ceiling - total {
-                return Spent::Left(Budget {
-                    steps: self.steps,
-                    total: total + n,
-                    wraps: self.wraps,
-                });
-            }
+        match self.total.checked_add(n) {
+            Some(total) if total <= ceiling => Ok(Budget { total, ..self }),
+            _ => Err(Refusal::Charge),
         }
-        Spent::Refused(Refusal::Charge)
     }
 
     // Charges that many copies of a node of a size.
-    pub fn charge_copies(self, ceiling: usize, size: usize, copies: usize) -> Spent
+    pub fn charge_copies(self, ceiling: usize, size: usize, copies: usize) -> Result<Self, Refusal>
         requires { (ceiling ≤ 65536) × (1 ≤ size) × (size < 2 ^ 32) }
         ensures { Spending (Definition.charge ceiling (size * copies) (budget_of self)) result }
     {
         if copies <= ceiling {
             return self.charge(ceiling, size * copies);
         }
-        Spent::Refused(Refusal::Charge)
+        Err(Refusal::Charge)
     }
 
     // Counts a type that is wrapped in another.
-    pub fn wrap(self) -> Spent
+    pub fn wrap(self) -> Result<Self, Refusal>
         ensures { Spending (Definition.wrap (budget_of self)) result }
     {
-        let wraps = self.wraps;
-        if wraps < Budget::MOST_WRAPS {
-            return Spent::Left(Budget {
-                steps: self.steps,
-                total: self.total,
-                wraps: wraps + 1,
+        if self.wraps < Budget::MOST_WRAPS {
+            return Ok(Budget {
+                wraps: self.wraps + 1,
+                ..self
             });
         }
-        Spent::Refused(Refusal::Nesting)
+        Err(Refusal::Nesting)
     }
 }

@@ -1,10 +1,61 @@
-// Kinds by number, and the groups that operators ask for.
+// Kinds, and the groups that operators ask for.
 ghost use Rattle.std.specs.Prelude.{◌≡◌};
 ghost use Rattle.definition.specs.Kind as K;
+ghost use Rattle.machine.specs.Kinds.{kind_of};
 ghost use Rattle.machine.specs.Wanted.{want_of};
 
+// The kinds of nodes. `kind as u32` is the number of a kind, which workspaces and output slices
+// hold.
+#[derive(Clone, Copy, Debug, PartialEq, Eq)]
+pub enum Kind {
+    Identifier,
+    Module,
+    Class,
+    Struct,
+    Enum,
+    Protocol,
+    TypeAlias,
+    GenericParam,
+    DependentMember,
+    Tuple,
+    FunctionType,
+    GenericType,
+    GenericSignature,
+    ConformanceRequirement,
+    SameTypeRequirement,
+    ProtocolList,
+    Metatype,
+    InOut,
+    BoundGeneric,
+    Function,
+    Variable,
+    Accessor,
+    Initializer,
+    Deinitializer,
+    VariableInitializer,
+    Static,
+    Record,
+    Conformance,
+    ProtocolWitness,
+    ValueWitness,
+    EmptyList,
+    FirstElementMarker,
+    VariadicMarker,
+    Throws,
+    Async,
+}
+
+impl Kind {
+    // Returns the number of a kind.
+    pub fn code(self) -> u32
+        ensures { result ≡ kind_of self }
+    {
+        self as u32
+    }
+}
+
 // The kinds that can be wanted on top of the stack.
-#[derive(Clone, Copy)]
+#[derive(Clone, Copy, Debug, PartialEq, Eq)]
 pub enum Want {
     Anything,
     Type,
@@ -12,52 +63,35 @@ pub enum Want {
     Protocol,
     Requirement,
     Identifier,
-    Kind(u32),
+    Kind(Kind),
 }
+
+// Kept: the functions below take the number of a kind, since workspaces are numbers by the C
+// interface and may hold any.
 
 pub fn is_entity(kind: u32) -> bool
     ensures { result ≡ K.is_entity kind }
 {
-    if kind < 19 {
-        return false;
-    }
-    kind <= 25
+    (Kind::Function as u32..=Kind::Static as u32).contains(&kind)
 }
 
 pub fn is_context(kind: u32) -> bool
     ensures { result ≡ K.is_context kind }
 {
-    if kind == 0 {
-        return false;
-    }
-    if kind <= 6 {
-        return true;
-    }
-    is_entity(kind)
+    (Kind::Module as u32..=Kind::TypeAlias as u32).contains(&kind) || is_entity(kind)
 }
 
 pub fn is_type(kind: u32) -> bool
     ensures { result ≡ K.is_type kind }
 {
-    if kind < 2 {
-        return false;
-    }
-    if kind <= 11 {
-        return true;
-    }
-    if kind < 15 {
-        return false;
-    }
-    kind <= 18
+    (Kind::Class as u32..=Kind::GenericType as u32).contains(&kind)
+        || (Kind::ProtocolList as u32..=Kind::BoundGeneric as u32).contains(&kind)
 }
 
 pub fn is_requirement(kind: u32) -> bool
     ensures { result ≡ K.is_requirement kind }
 {
-    if kind == 13 {
-        return true;
-    }
-    kind == 14
+    kind == Kind::ConformanceRequirement as u32 || kind == Kind::SameTypeRequirement as u32
 }
 
 // Whether a kind is one that is wanted.
@@ -68,9 +102,9 @@ pub fn wanted(want: Want, kind: u32) -> bool
         Want::Anything => true,
         Want::Type => is_type(kind),
         Want::Entity => is_entity(kind),
-        Want::Protocol => kind == 5,
+        Want::Protocol => kind == Kind::Protocol as u32,
         Want::Requirement => is_requirement(kind),
-        Want::Identifier => kind == 0,
-        Want::Kind(k) => k == kind,
+        Want::Identifier => kind == Kind::Identifier as u32,
+        Want::Kind(k) => kind == k as u32,
     }
 }

@@ -1,30 +1,37 @@
--- What a result says about a step of the definition that reads an operator. Assumes nothing. The
--- arguments: the outcome of the step on the text from the cursor on, the whole text, the least
--- place of the next cursor, the result.
-use Rattle.std.specs.Prelude.{◌≡◌, ℕ, ◌+◌}
-use Rattle.definition.specs.Base.{Out, refused}
-use Rattle.definition.specs.Text.{Text}
+-- What the result of a function says about a step of the definition that reads an operator. Assumes
+-- nothing.
+use Rattle.std.specs.Prelude.{◌≡◌, ◌+◌, ◌≤◌, ◌∷◌, length, Result, MatchResult, Option, Some, None}
+use Rattle.definition.specs.Base.{refused, ◌>>=◌}
+use Rattle.definition.specs.Text.{Lex, next}
 use Rattle.definition.specs.Operators as Op
 use Rattle.definition.specs.Enums as Enums
-use Rattle.text_cursor.specs.declared.Cursor.{Cursor}
+use Rattle.definition.specs.declared.Operator.{Operator}
+use Rattle.definition.specs.declared.Refusal.{Refusal}
+use Rattle.definition.specs.declared.Subject.{Subject}
+use Rattle.text_cursor.specs.Reads.{rest, Stands, Reads}
+use Rattle.text_cursor.specs.declared.Reader.{Reader}
 use Rattle.operator_names.specs.Fixed.{fixed}
-use Rattle.operator_operands.specs.declared.OperatorRead.{OperatorRead}
-use Rattle.operator_operands.specs.declared.OperatorRead.TheVariants as OperatorRead
-use Rattle.operator_letters.specs.declared.SubjectRead.{SubjectRead}
-use Rattle.operator_letters.specs.declared.SubjectRead.TheVariants as SubjectRead
-use Rattle.operator_operands.specs.OperatorReads.{Stands}
 
-abbrev pub Subjected : Out Text Op.Subject → Text → ℕ → SubjectRead → Type 0
-Subjected out text least (SubjectRead.Read s c) = Stands out (Enums.subject s) text least c
-Subjected out text least (SubjectRead.Refused f) = out ≡ refused (Enums.number f)
+-- the subject of a requirement
+abbrev pub ReadsSubject : Lex Op.Subject → Reader → Reader → Result Subject Refusal → Type 0
+ReadsSubject = Reads Enums.subject 0
 
--- the letter `A`, which is b, was at the place `at`
-pub record OpensChain (b at : ℕ) (c : Cursor) : Type 0 where
-  pub letter : b ≡ 65
-  pub next : c.at ≡ at + 1
+-- the first letter, and what follows it
+abbrev pub first_operator : Lex Op.Operator
+first_operator = next >>= Op.operator
 
--- the operator that begins with the byte b at the place `at`
-abbrev pub Begun : ℕ → Out Text Op.Operator → Text → ℕ → OperatorRead → Type 0
-Begun b out text at (OperatorRead.Read q c) = Stands out (Enums.operator fixed q) text (at + 1) c
-Begun b out text at (OperatorRead.Substitutions c) = OpensChain b at c
-Begun b out text at (OperatorRead.Refused f) = out ≡ refused (Enums.number f)
+-- the letter `A` was taken
+pub record OpensChain (old new : Reader) : Type 0 where
+  pub letter : rest old ≡ 65 ∷ rest new
+  pub text : new.text ≡ old.text
+  pub inside : new.at ≤ length new.text.now
+  pub next : new.at ≡ old.at + 1
+
+-- an operator, or the letter `A`
+abbrev pub Begun : Reader → Reader → Option Operator → Type 0
+Begun old new (Some q) = Stands (first_operator (rest old)) (Enums.operator fixed q) 1 old new
+Begun old new None = OpensChain old new
+
+-- the operator that begins at `old`
+pub record Begins (old new : Reader) (r : Result (Option Operator) Refusal) : Type 0 where
+  pub says : MatchResult r (Begun old new) (λ f. first_operator (rest old) ≡ refused (Enums.number f))

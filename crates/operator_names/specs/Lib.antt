@@ -1,2 +1,2 @@
 pub mod Fixed
-pub mod Words
+pub mod Rows

@@ -1,976 +1,420 @@
 // The fixed names, which are all the texts that operators supply, followed by the texts that the
-// printer supplies: 171 of them, as words of eight bytes. An item is found by its number with a
-// `match`, because a constant array is copied at each use.
+// printer supplies, by their numbers.
 #![tactic(auto)]
 
-ghost use Rattle.std.specs.Prelude.{◌≡◌, ◌≤◌, ◌<◌, get_or};
-ghost use Rattle.operator_names.specs.Words.{words, places, Named};
+ghost use Rattle.std.specs.Prelude.{◌≡◌, ◌<◌, length};
+ghost use Rattle.operator_names.specs.Rows.{NameAt};
+ghost use Rattle.definition.specs.Base.{bytes};
+ghost use Rattle.operator_names.specs.Fixed.{numbered};
 
-// A part of the words: the index of its first word, and its length in bytes.
+// The names that operators supply. `name as usize` is the number of a name.
 #[derive(Clone, Copy)]
-pub struct Part {
-    pub first: usize,
-    pub len: usize,
+pub enum Name {
+    // Modules and a protocol.
+    Swift,
+    C,
+    CSynthesized,
+    AnyObject,
+    // Standard types.
+    Array,
+    AutoreleasingUnsafeMutablePointer,
+    Bool,
+    Dictionary,
+    Double,
+    Float,
+    Set,
+    DefaultIndices,
+    Int,
+    Character,
+    ClosedRange,
+    Range,
+    ObjectIdentifier,
+    UnsafePointer,
+    UnsafeMutablePointer,
+    UnsafeBufferPointer,
+    UnsafeMutableBufferPointer,
+    String,
+    Substring,
+    UInt,
+    UnsafeRawPointer,
+    UnsafeMutableRawPointer,
+    UnsafeRawBufferPointer,
+    UnsafeMutableRawBufferPointer,
+    Optional,
+    BinaryFloatingPoint,
+    Encodable,
+    Decodable,
+    FloatingPoint,
+    RandomNumberGenerator,
+    Hashable,
+    Numeric,
+    BidirectionalCollection,
+    RandomAccessCollection,
+    Comparable,
+    Collection,
+    MutableCollection,
+    RangeReplaceableCollection,
+    Equatable,
+    Sequence,
+    IteratorProtocol,
+    UnsignedInteger,
+    RangeExpression,
+    Strideable,
+    RawRepresentable,
+    StringProtocol,
+    SignedInteger,
+    BinaryInteger,
+    // Accessors.
+    Getter,
+    Setter,
+    Modify,
+    Read,
+    MaterializeForSet,
+    WillSet,
+    DidSet,
+    UnsafeAddressor,
+    UnsafeMutableAddressor,
+    ModifyCoroutine,
+    // Function entities.
+    IvarInitializer,
+    IvarDestroyer,
+    // Context descriptors.
+    ModuleDescriptor,
+    ExtensionDescriptor,
+    AnonymousDescriptor,
+    // Metatype records.
+    TypeMetadataAccessor,
+    FullTypeMetadata,
+    Metaclass,
+    NominalTypeDescriptor,
+    ReflectionMetadataFieldDescriptor,
+    ReflectionMetadataBuiltinDescriptor,
+    ReflectionMetadataSuperclassDescriptor,
+    ReflectionMetadataAssocTypeDescriptor,
+    ProtocolDescriptor,
+    ProtocolConformanceDescriptor,
+    PropertyDescriptor,
+    MetadataInstantiationCache,
+    LazyCacheVariableForTypeMetadata,
+    TypeMetadataInstantiationFunction,
+    TypeMetadataInstantiationCache,
+    TypeMetadataSingletonInitializationCache,
+    TypeMetadataCompletionFunction,
+    GenericTypeMetadataPattern,
+    DemanglingCacheVariableForTypeMetadata,
+    MangledNameRefForTypeMetadata,
+    // Type metadata.
+    TypeMetadata,
+    // Field offsets.
+    DirectFieldOffset,
+    IndirectFieldOffset,
+    // Witnesses.
+    ValueWitnessTable,
+    LazyProtocolWitnessTableAccessor,
+    LazyProtocolWitnessTableCacheVariable,
+    ProtocolWitnessTable,
+    ProtocolWitnessTablePattern,
+    ProtocolWitnessTableAccessor,
+    ProtocolSelfConformanceWitnessTable,
+    // Value witnesses.
+    AllocateBuffer,
+    AssignWithCopy,
+    InitializeWithCopy,
+    AssignWithTake,
+    InitializeWithTake,
+    InitializeArrayWithTakeBackToFront,
+    DeallocateBuffer,
+    Destroy,
+    StoreExtraInhabitant,
+    GetExtraInhabitantIndex,
+    DestroyBuffer,
+    DestroyArray,
+    InitializeBufferWithCopyOfBuffer,
+    InitializeBufferWithCopy,
+    InitializeArrayWithCopy,
+    InitializeBufferWithTake,
+    InitializeBufferWithTakeOfBuffer,
+    InitializeArrayWithTakeFrontToBack,
+    ProjectBuffer,
+    GetEnumTag,
+    DestructiveProjectEnumData,
+    DestructiveInjectEnumTag,
+    GetEnumTagSinglePayload,
+    StoreEnumTagSinglePayload,
+    // Thunks.
+    ProtocolRequirementsBaseDescriptor,
+    ProtocolSelfConformanceDescriptor,
+    MethodDescriptor,
+    AsyncFunctionPointer,
+    DispatchThunk,
+    VtableThunk,
+    ObjC,
+    NonObjC,
+    DynamicallyReplaceableFunction,
+    DynamicallyReplaceableVariable,
+    DynamicallyReplaceableKey,
+    Merged,
+    // Of an associated type.
+    AssociatedTypeDescriptor,
 }
 
-// A table is split into functions of 64 arms, because what the prover makes of a match grows with
-// the square of the number of its arms.
-
-// The words 0 to 63.
-fn word_0(i: usize) -> u64
-    requires { i < 64 }
-    ensures { result ≡ get_or words i 0 }
-{
-    match i {
-        // 0: "Swift"
-        0 => 499934394195,
-        // 1: "__C"
-        1 => 4415327,
-        // 2: "__C_Synthesized"
-        2 => 8389776554825310047,
-        3 => 28259074100651368,
-        // 3: "AnyObject"
-        4 => 7162247752875339329,
-        5 => 116,
-        // 4: "Array"
-        6 => 521325933121,
-        // 5: "AutoreleasingUnsafeMutablePointer"
-        7 => 7308327837486052673,
-        8 => 8317679464522281825,
-        9 => 7089075335616357985,
-        10 => 7310589494247318892,
-        11 => 114,
-        // 6: "Bool"
-        12 => 1819242306,
-        // 7: "Dictionary"
-        13 => 7020671367832103236,
-        14 => 31090,
-        // 8: "Double"
-        15 => 111516182736708,
-        // 9: "Float"
-        16 => 499850898502,
-        // 10: "Set"
-        17 => 7628115,
-        // 11: "DefaultIndices"
-        18 => 5292974713468249412,
-        19 => 126879296742510,
-        // 12: "Int"
-        20 => 7630409,
-        // 13: "Character"
-        21 => 7310577365311121475,
-        22 => 114,
-        // 14: "ClosedRange"
-        23 => 7012777956660440131,
-        24 => 6645614,
-        // 15: "Range"
-        25 => 435526984018,
-        // 16: "ObjectIdentifier"
-        26 => 7226435047344726607,
-        27 => 8243110581548379749,
-        // 17: "UnsafePointer"
-        28 => 8021022426742877781,
-        29 => 491328401001,
-        // 18: "UnsafeMutablePointer"
-        30 => 8452523566040313429,
-        31 => 7597379492937621876,
-        32 => 1919251566,
-        // 19: "UnsafeBufferPointer"
-        33 => 8449427341296496213,
-        34 => 7956012608034006630,
-        35 => 7497076,
-        // 20: "UnsafeMutableBufferPointer"
-        36 => 8452523566040313429,
-        37 => 7382880167521313140,
-        38 => 8389759082649773414,
-        39 => 29285,
-        // 21: "String"
-        40 => 113723913172051,
-        // 22: "Substring"
-        41 => 7956016061204297043,
-        42 => 103,
-        // 23: "UInt"
-        43 => 1953384789,
-        // 24: "UnsafeRawPointer"
-        44 => 7012779060165307989,
-        45 => 8243122710535688311,
-        // 25: "UnsafeMutableRawPointer"
-        46 => 8452523566040313429,
-        47 => 8602247358817919348,
-        48 => 32199698088030032,
-        // 26: "UnsafeRawBufferPointer"
-        49 => 7012779060165307989,
-        50 => 5796807160859279991,
-        51 => 125780070656367,
-        // 27: "UnsafeMutableRawBufferPointer"
-        52 => 8452523566040313429,
-        53 => 8602247358817919348,
-        54 => 8021036716182107458,
-        55 => 491328401001,
-        // 28: "Optional"
-        56 => 7809644653626814543,
-        // 29: "BinaryFloatingPoint"
-        57 => 7802056936633821506,
-        58 => 8021024660260151663,
-        59 => 7630441,
-        // 30: "Encodable"
-        60 => 7809911787807272517,
-        61 => 101,
-        // 31: "Decodable"
-        62 => 7809911787807270212,
-        _ => 101,
-    }
+// The texts that the printer supplies. `text as usize` is the number of a text.
+#[derive(Clone, Copy)]
+pub enum Text {
+    Dot,
+    Colon,
+    SpacedColon,
+    Equals,
+    Comma,
+    Ampersand,
+    OpenParenthesis,
+    CloseParenthesis,
+    OpenAngle,
+    CloseAngle,
+    OpenBracket,
+    CloseBracket,
+    QuestionMark,
+    Where,
+    MetatypeSuffix,
+    InOut,
+    VariableInitialization,
+    Static,
+    In,
+    ProtocolWitness,
+    InConformance,
+    ValueWitness,
+    AndConformance,
+    AssociatedConformance,
+    EmptyTuple,
+    Any,
+    Arrow,
+    Async,
+    Throws,
+    AllocatingInit,
+    Init,
+    DeallocatingDeinit,
+    Deinit,
+    Underscore,
+    SuspendResume,
+    UnmangledSuffix,
+    Quote,
 }
 
-// The words 64 to 127.
-fn word_64(i: usize) -> u64
-    requires { (64 ≤ i) × (i < 128) }
-    ensures { result ≡ get_or words i 0 }
+// How many names there are. In the row that both share, the texts follow the names.
+pub const NAMES: usize = 134;
+
+pub const TEXTS: usize = 37;
+
+// The names 0 to 51: modules, a protocol and standard types.
+static FIRST: [&[u8]; 52] = [
+    b"Swift",
+    b"__C",
+    b"__C_Synthesized",
+    b"AnyObject",
+    b"Array",
+    b"AutoreleasingUnsafeMutablePointer",
+    b"Bool",
+    b"Dictionary",
+    b"Double",
+    b"Float",
+    b"Set",
+    b"DefaultIndices",
+    b"Int",
+    b"Character",
+    b"ClosedRange",
+    b"Range",
+    b"ObjectIdentifier",
+    b"UnsafePointer",
+    b"UnsafeMutablePointer",
+    b"UnsafeBufferPointer",
+    b"UnsafeMutableBufferPointer",
+    b"String",
+    b"Substring",
+    b"UInt",
+    b"UnsafeRawPointer",
+    b"UnsafeMutableRawPointer",
+    b"UnsafeRawBufferPointer",
+    b"UnsafeMutableRawBufferPointer",
+    b"Optional",
+    b"BinaryFloatingPoint",
+    b"Encodable",
+    b"Decodable",
+    b"FloatingPoint",
+    b"RandomNumberGenerator",
+    b"Hashable",
+    b"Numeric",
+    b"BidirectionalCollection",
+    b"RandomAccessCollection",
+    b"Comparable",
+    b"Collection",
+    b"MutableCollection",
+    b"RangeReplaceableCollection",
+    b"Equatable",
+    b"Sequence",
+    b"IteratorProtocol",
+    b"UnsignedInteger",
+    b"RangeExpression",
+    b"Strideable",
+    b"RawRepresentable",
+    b"StringProtocol",
+    b"SignedInteger",
+    b"BinaryInteger",
+];
+
+// The names 52 to 96: accessors, entities, descriptors, metadata, offsets and witnesses.
+static SECOND: [&[u8]; 45] = [
+    b"getter",
+    b"setter",
+    b"modify",
+    b"read",
+    b"materializeForSet",
+    b"willset",
+    b"didset",
+    b"unsafeAddressor",
+    b"unsafeMutableAddressor",
+    b"modify",
+    b"ivar initializer for ",
+    b"ivar destroyer for ",
+    b"module descriptor ",
+    b"extension descriptor ",
+    b"anonymous descriptor ",
+    b"type metadata accessor for ",
+    b"full type metadata for ",
+    b"metaclass for ",
+    b"nominal type descriptor for ",
+    b"reflection metadata field descriptor ",
+    b"reflection metadata builtin descriptor ",
+    b"reflection metadata superclass descriptor ",
+    b"reflection metadata assocType descriptor ",
+    b"protocol descriptor for ",
+    b"protocol conformance descriptor for ",
+    b"property descriptor for ",
+    b"metadata instantiation cache for ",
+    b"lazy cache variable for type metadata for ",
+    b"type metadata instantiation function for ",
+    b"type metadata instantiation cache for ",
+    b"type metadata singleton initialization cache for ",
+    b"type metadata completion function for ",
+    b"generic type metadata pattern for ",
+    b"demangling cache variable for type metadata for ",
+    b"mangled name ref for type metadata for ",
+    b"type metadata for ",
+    b"direct field offset for ",
+    b"indirect field offset for ",
+    b"value witness table for ",
+    b"lazy protocol witness table accessor for type ",
+    b"lazy protocol witness table cache variable for type ",
+    b"protocol witness table for ",
+    b"protocol witness table pattern for ",
+    b"protocol witness table accessor for ",
+    b"protocol self-conformance witness table for ",
+];
+
+// The names 97 to 133: value witnesses, thunks and the associated type.
+static THIRD: [&[u8]; 37] = [
+    b"allocateBuffer",
+    b"assignWithCopy",
+    b"initializeWithCopy",
+    b"assignWithTake",
+    b"initializeWithTake",
+    b"initializeArrayWithTakeBackToFront",
+    b"deallocateBuffer",
+    b"destroy",
+    b"storeExtraInhabitant",
+    b"getExtraInhabitantIndex",
+    b"destroyBuffer",
+    b"destroyArray",
+    b"initializeBufferWithCopyOfBuffer",
+    b"initializeBufferWithCopy",
+    b"initializeArrayWithCopy",
+    b"initializeBufferWithTake",
+    b"initializeBufferWithTakeOfBuffer",
+    b"initializeArrayWithTakeFrontToBack",
+    b"projectBuffer",
+    b"getEnumTag",
+    b"destructiveProjectEnumData",
+    b"destructiveInjectEnumTag",
+    b"getEnumTagSinglePayload",
+    b"storeEnumTagSinglePayload",
+    b"protocol requirements base descriptor for ",
+    b"protocol self-conformance descriptor for ",
+    b"method descriptor for ",
+    b"async function pointer to ",
+    b"dispatch thunk of ",
+    b"vtable thunk for ",
+    b"@objc ",
+    b"@nonobjc ",
+    b"dynamically replaceable function for ",
+    b"dynamically replaceable variable for ",
+    b"dynamically replaceable key for ",
+    b"merged ",
+    b"associated type descriptor for ",
+];
+
+// The texts.
+static FOURTH: [&[u8]; 37] = [
+    b".",
+    b": ",
+    b" : ",
+    b" == ",
+    b", ",
+    b" & ",
+    b"(",
+    b")",
+    b"<",
+    b">",
+    b"[",
+    b"]",
+    b"?",
+    b" where ",
+    b".Type",
+    b"inout ",
+    b"variable initialization expression of ",
+    b"static ",
+    b" in ",
+    b"protocol witness for ",
+    b" in conformance ",
+    b" value witness for ",
+    b" and conformance ",
+    b"associated conformance descriptor for ",
+    b"()",
+    b"Any",
+    b" -> ",
+    b" async",
+    b" throws",
+    b"__allocating_init",
+    b"init",
+    b"__deallocating_deinit",
+    b"deinit",
+    b"_",
+    b") suspend resume partial function for ",
+    b" with unmangled suffix \"",
+    b"\"",
+];
+
+// Returns name i of a row of names.
+fn name_at(row: &'static [&'static [u8]], i: usize) -> &'static [u8]
+    requires { i < length row.now }
+    ensures { NameAt row.now i result.now }
 {
-    match i {
-        // 32: "FloatingPoint"
-        64 => 7453010381916564550,
-        65 => 500068609872,
-        // 33: "RandomNumberGenerator"
-        66 => 8452813875814752594,
-        67 => 7308890602805224045,
-        68 => 491496169842,
-        // 34: "Hashable"
-        69 => 7308324465819214152,
-        // 35: "Numeric"
-        70 => 27981962743215438,
-        // 36: "BidirectionalCollection"
-        71 => 8386658473162860866,
-        72 => 7813538011281256297,
-        73 => 31084746153092460,
-        // 37: "RandomAccessCollection"
-        74 => 7152118008434811218,
-        75 => 7812741789071402339,
-        76 => 121424789660517,
-        // 38: "Comparable"
-        77 => 7089073051281485635,
-        78 => 25964,
-        // 39: "Collection"
-        79 => 7598807758542761795,
-        80 => 28271,
-        // 40: "MutableCollection"
-        81 => 4856406942986564941,
-        82 => 8028075781016808559,
-        83 => 110,
-        // 41: "RangeReplaceableCollection"
-        84 => 8098970100376166738,
-        85 => 7308324465767833964,
-        86 => 7598807758542761795,
-        87 => 28271,
-        // 42: "Equatable"
-        88 => 7809911856293048645,
-        89 => 101,
-        // 43: "Sequence"
-        90 => 7305804402566194515,
-        // 44: "IteratorProtocol"
-        91 => 8245937404618568777,
-        92 => 7813573208857080400,
-        // 45: "UnsignedInteger"
-        93 => 7234309766870429269,
-        94 => 32199642103180873,
-        // 46: "RangeExpression"
-        95 => 8104303831282508114,
-        96 => 31084746137363826,
-        // 47: "Strideable"
-        97 => 7089058770398114899,
-        98 => 25964,
-        // 48: "RawRepresentable"
-        99 => 7310028725653299538,
-        100 => 7308324466020214131,
-        // 49: "StringProtocol"
-        101 => 8237197442373809235,
-        102 => 119225665418351,
-        // 50: "SignedInteger"
-        103 => 7946993404278696275,
-        104 => 491327546740,
-        // 51: "BinaryInteger"
-        105 => 7947016549639809346,
-        106 => 491327546740,
-        // 52: "getter"
-        107 => 125780071048551,
-        // 53: "setter"
-        108 => 125780071048563,
-        // 54: "modify"
-        109 => 133480761814893,
-        // 55: "read"
-        110 => 1684104562,
-        // 56: "materializeForSet"
-        111 => 7809639168886464877,
-        112 => 7301305243145697897,
-        113 => 116,
-        // 57: "willset"
-        114 => 32762643713124727,
-        // 58: "didset"
-        115 => 127979076479332,
-        // 59: "unsafeAddressor"
-        116 => 7224166767675010677,
-        117 => 32210688992965220,
-        // 60: "unsafeMutableAddressor"
-        118 => 8452523566040313461,
-        119 => 7233978805329748340,
-        120 => 125823003878770,
-        // 61: "modify"
-        121 => 133480761814893,
-        // 62: "ivar initializer for "
-        122 => 7597125209499465321,
-        123 => 8243129286180039028,
-        124 => 139358856736,
-        // 63: "ivar destroyer for "
-        125 => 8315162377530209897,
-        126 => 7359007571278000756,
-        _ => 2126447,
-    }
+    row[i]
 }
 
-// The words 128 to 191.
-fn word_128(i: usize) -> u64
-    requires { (128 ≤ i) × (i < 192) }
-    ensures { result ≡ get_or words i 0 }
+// Returns the name or text with number n in the row that both share, or nothing past the last.
+pub fn fixed_name(n: usize) -> &'static [u8]
+    ensures { result.now ≡ bytes (numbered n) }
 {
-    match i {
-        // 64: "module descriptor "
-        128 => 7214878119547924333,
-        129 => 8031167633701434213,
-        130 => 8306,
-        // 65: "extension descriptor "
-        131 => 8028074728750348389,
-        132 => 7598244868600897646,
-        133 => 139358860400,
-        // 66: "anonymous descriptor "
-        134 => 8462102593163718241,
-        135 => 7598244868600897651,
-        136 => 139358860400,
-        // 67: "type metadata accessor for "
-        137 => 8387229866955667828,
-        138 => 7161040485432255585,
-        139 => 7359007614127269219,
-        140 => 2126447,
-        // 68: "full type metadata for "
-        141 => 8104636687036740966,
-        142 => 7017841271895826533,
-        143 => 9133022035075444,
-        // 69: "metaclass for "
-        144 => 8314045561195226477,
-        145 => 35675867324531,
-        // 70: "nominal type descriptor for "
-        146 => 2336349433541521262,
-        147 => 8315162377313089908,
-        148 => 2338053702451556963,
-        149 => 544370534,
-        // 71: "reflection metadata field descriptor "
-        150 => 7598807758542366066,
-        151 => 7233190455505088111,
-        152 => 7810765016094831713,
-        153 => 7598244868600897636,
-        154 => 139358860400,
-        // 72: "reflection metadata builtin descriptor "
-        155 => 7598807758542366066,
-        156 => 7233190455505088111,
-        157 => 7811904092961338465,
-        158 => 7166182912791832948,
-        159 => 9133022275201394,
-        // 73: "reflection metadata superclass descriptor "
-        160 => 7598807758542366066,
-        161 => 7233190455505088111,
-        162 => 7309471332547261537,
-        163 => 7214893542440461170,
-        164 => 8031167633701434213,
-        165 => 8306,
-        // 74: "reflection metadata assocType descriptor "
-        166 => 7598807758542366066,
-        167 => 7233190455505088111,
-        168 => 8030889421524005985,
-        169 => 7306000115552572515,
-        170 => 8245937468892930931,
-        171 => 32,
-        // 75: "protocol descriptor for "
-        172 => 7813573208857080432,
-        173 => 8100131176265901088,
-        174 => 2338053640980426612,
-        // 76: "protocol conformance descriptor for "
-        175 => 7813573208857080432,
-        176 => 7886488383209300768,
-        177 => 8315162377312235105,
-        178 => 2338053702451556963,
-        179 => 544370534,
-        // 77: "property descriptor for "
-        180 => 8751745755891331696,
-        181 => 8100131176265901088,
-        182 => 2338053640980426612,
-        // 78: "metadata instantiation cache for "
-        183 => 7022344802737087853,
-        184 => 8389750308618529056,
-        185 => 7142830433799266665,
-        186 => 8245921732064994145,
-        187 => 32,
-        // 79: "lazy cache variable for type metadata for "
-        188 => 7161113873623966060,
-        189 => 7019267257152857448,
-        190 => 2338053640979573858,
-        _ => 8387229866955667828,
+    if n < 52 {
+        return name_at(&FIRST, n);
     }
-}
-
-// The words 192 to 255.
-fn word_192(i: usize) -> u64
-    requires { (192 ≤ i) × (i < 256) }
-    ensures { result ≡ get_or words i 0 }
-{
-    match i {
-        192 => 8027138988770944097,
-        193 => 8306,
-        // 80: "type metadata instantiation function for "
-        194 => 8387229866955667828,
-        195 => 7955925819663148129,
-        196 => 8386099929929577587,
-        197 => 7164793138684260201,
-        198 => 8245921732216449396,
-        199 => 32,
-        // 81: "type metadata instantiation cache for "
-        200 => 8387229866955667828,
-        201 => 7955925819663148129,
-        202 => 8386099929929577587,
-        203 => 7521962881012625257,
-        204 => 35675867324517,
-        // 82: "type metadata singleton initialization cache for "
-        205 => 8387229866955667828,
-        206 => 7598452599240615009,
-        207 => 2336927802360358766,
-        208 => 7596553777019711081,
-        209 => 7142830433799266682,
-        210 => 8245921732064994145,
-        211 => 32,
-        // 83: "type metadata completion function for "
-        212 => 8387229866955667828,
-        213 => 8026294563840812129,
-        214 => 7957695015225684077,
-        215 => 8028075781168391712,
-        216 => 35675867324526,
-        // 84: "generic type metadata pattern for "
-        217 => 2333824971956970855,
-        218 => 8387229866955667828,
-        219 => 7021147422007059553,
-        220 => 8027139044572230772,
-        221 => 8306,
-        // 85: "demangling cache variable for type metadata for "
-        222 => 7596560395245806948,
-        223 => 7307199665334675310,
-        224 => 7809911809332311584,
-        225 => 8751655651755040869,
-        226 => 7233190455505085808,
-        227 => 2338053640979313761,
-        // 86: "mangled name ref for type metadata for "
-        228 => 2334102023150920045,
-        229 => 7378429047982612846,
-        230 => 8104636687137596960,
-        231 => 7017841271895826533,
-        232 => 9133022035075444,
-        // 87: "type metadata for "
-        233 => 8387229866955667828,
-        234 => 8027138988770944097,
-        235 => 8306,
-        // 88: "direct field offset for "
-        236 => 7359009761375971684,
-        237 => 7378707224407598441,
-        238 => 2338053640980555123,
-        // 89: "indirect field offset for "
-        239 => 8386658473162862185,
-        240 => 8007510554185393696,
-        241 => 8027139070124844646,
-        242 => 8306,
-        // 90: "value witness table for "
-        243 => 7599578516344824182,
-        244 => 7022273399206801012,
-        245 => 2338053640979573858,
-        // 91: "lazy protocol witness table accessor for type "
-        246 => 8030604370334343532,
-        247 => 7599578546308345716,
-        248 => 7022273399206801012,
-        249 => 7305792289331571810,
-        250 => 8245921732283560819,
-        251 => 35620050793504,
-        // 92: "lazy protocol witness table cache variable for type "
-        252 => 8030604370334343532,
-        253 => 7599578546308345716,
-        254 => 7022273399206801012,
-        _ => 7521962881012034658,
+    if n < 97 {
+        return name_at(&SECOND, n - 52);
     }
-}
-
-// The words 256 to 319.
-fn word_256(i: usize) -> u64
-    requires { (256 ≤ i) × (i < 320) }
-    ensures { result ≡ get_or words i 0 }
-{
-    match i {
-        256 => 7089063228440191077,
-        257 => 8367813930434717036,
-        258 => 543518841,
-        // 93: "protocol witness table for "
-        259 => 7813573208857080432,
-        260 => 8319104461757314848,
-        261 => 7358993307304817696,
-        262 => 2126447,
-        // 94: "protocol witness table pattern for "
-        263 => 7813573208857080432,
-        264 => 8319104461757314848,
-        265 => 8079569247684097056,
-        266 => 7359003228730848353,
-        267 => 2126447,
-        // 95: "protocol witness table accessor for "
-        268 => 7813573208857080432,
-        269 => 8319104461757314848,
-        270 => 6998705337115178016,
-        271 => 2338053698206655331,
-        272 => 544370534,
-        // 96: "protocol self-conformance witness table for "
-        273 => 7813573208857080432,
-        274 => 8026308878832857888,
-        275 => 7164771179892270702,
-        276 => 8315173733274165349,
-        277 => 2334391151659065459,
-        278 => 544370534,
-        // 97: "allocateBuffer"
-        279 => 7310575174828190817,
-        280 => 125779835254082,
-        // 98: "assignWithCopy"
-        281 => 7590657087386121057,
-        282 => 133523809986676,
-        // 99: "initializeWithCopy"
-        283 => 7596553777019711081,
-        284 => 8017366610842445178,
-        285 => 31088,
-        // 100: "assignWithTake"
-        286 => 7590657087386121057,
-        287 => 111511868827764,
-        // 101: "initializeWithTake"
-        288 => 7596553777019711081,
-        289 => 7013345368915535226,
-        290 => 25963,
-        // 102: "initializeArrayWithTakeBackToFront"
-        291 => 7596553777019711081,
-        292 => 6303176297652774266,
-        293 => 4784348244923151465,
-        294 => 8030558529526653793,
-        295 => 29806,
-        // 103: "deallocateBuffer"
-        296 => 7017575155838838116,
-        297 => 8243107283211543924,
-        // 104: "destroy"
-        298 => 34181009552663908,
-        // 105: "storeExtraInhabitant"
-        299 => 8392534207618839667,
-        300 => 7593739022854873458,
-        301 => 1953390964,
-        // 106: "getExtraInhabitantIndex"
-        302 => 7021802828934178151,
-        303 => 7022353590239391305,
-        304 => 33888479226721390,
-        // 107: "destroyBuffer"
-        305 => 4789982216055907684,
-        306 => 491327481461,
-        // 108: "destroyArray"
-        307 => 4717924622017979748,
-        308 => 2036429426,
-        // 109: "initializeBufferWithCopyOfBuffer"
-        309 => 7596553777019711081,
-        310 => 8243107283211543930,
-        311 => 8750616411286825303,
-        312 => 8243107283211544143,
-        // 110: "initializeBufferWithCopy"
-        313 => 7596553777019711081,
-        314 => 8243107283211543930,
-        315 => 8750616411286825303,
-        // 111: "initializeArrayWithCopy"
-        316 => 7596553777019711081,
-        317 => 6303176297652774266,
-        318 => 34182095356589161,
-        // 112: "initializeBufferWithTake"
-        _ => 7596553777019711081,
+    if n < NAMES {
+        return name_at(&THIRD, n - 97);
     }
-}
-
-// The words 320 to 383.
-fn word_320(i: usize) -> u64
-    requires { (320 ≤ i) × (i < 384) }
-    ensures { result ≡ get_or words i 0 }
-{
-    match i {
-        320 => 8243107283211543930,
-        321 => 7308041835496368471,
-        // 113: "initializeBufferWithTakeOfBuffer"
-        322 => 7596553777019711081,
-        323 => 8243107283211543930,
-        324 => 7308041835496368471,
-        325 => 8243107283211544143,
-        // 114: "initializeArrayWithTakeFrontToBack"
-        326 => 7596553777019711081,
-        327 => 6303176297652774266,
-        328 => 5072578621074863209,
-        329 => 7008286378663243634,
-        330 => 27491,
-        // 115: "projectBuffer"
-        331 => 4788561591030215280,
-        332 => 491327481461,
-        // 116: "getEnumTag"
-        333 => 6083647788119516519,
-        334 => 26465,
-        // 117: "destructiveProjectEnumData"
-        335 => 8386676065534436708,
-        336 => 7307775882127832681,
-        337 => 7008847271223981155,
-        338 => 24948,
-        // 118: "destructiveInjectEnumTag"
-        339 => 8386676065534436708,
-        340 => 7162247804312974953,
-        341 => 7449328087745840500,
-        // 119: "getEnumTagSinglePayload"
-        342 => 6083647788119516519,
-        343 => 7308330019226609505,
-        344 => 28254628860223824,
-        // 120: "storeEnumTagSinglePayload"
-        345 => 8461777051889661043,
-        346 => 7453010240282383469,
-        347 => 7020949612673394028,
-        348 => 100,
-        // 121: "protocol requirements base descriptor for "
-        349 => 7813573208857080432,
-        350 => 7310021098310300192,
-        351 => 7017206849643373933,
-        352 => 8242558622326875507,
-        353 => 8027139061702750313,
-        354 => 8306,
-        // 122: "protocol self-conformance descriptor for "
-        355 => 7813573208857080432,
-        356 => 8026308878832857888,
-        357 => 7164771179892270702,
-        358 => 7598244868600897637,
-        359 => 8245921732283561072,
-        360 => 32,
-        // 123: "method descriptor for "
-        361 => 7214877032704140653,
-        362 => 8031167633701434213,
-        363 => 35675867324530,
-        // 124: "async function pointer to "
-        364 => 8459484561489359713,
-        365 => 8079579156292330350,
-        366 => 8367813887725037935,
-        367 => 8303,
-        // 125: "dispatch thunk of "
-        368 => 7521983764486121828,
-        369 => 8007518259625096224,
-        370 => 8294,
-        // 126: "vtable thunk for "
-        371 => 8367799623835808886,
-        372 => 8245921732166055272,
-        373 => 32,
-        // 127: "@objc "
-        374 => 35611358687040,
-        // 128: "@nonobjc "
-        375 => 7163646388019883584,
-        376 => 32,
-        // 129: "dynamically replaceable function for "
-        377 => 7017568562880346468,
-        378 => 7813856894333316204,
-        379 => 2334391151658099553,
-        380 => 7957695015192261990,
-        381 => 139358856736,
-        // 130: "dynamically replaceable variable for "
-        382 => 7017568562880346468,
-        _ => 7813856894333316204,
+    if n < NAMES + TEXTS {
+        return name_at(&FOURTH, n - NAMES);
     }
-}
-
-// The words 384 to 447.
-fn word_384(i: usize) -> u64
-    requires { (384 ≤ i) × (i < 448) }
-    ensures { result ≡ get_or words i 0 }
-{
-    match i {
-        384 => 2334391151658099553,
-        385 => 7308324465835925878,
-        386 => 139358856736,
-        // 131: "dynamically replaceable key for "
-        387 => 7017568562880346468,
-        388 => 7813856894333316204,
-        389 => 2334391151658099553,
-        390 => 2338053640980882795,
-        // 132: "merged "
-        391 => 9117585944765805,
-        // 133: "associated type descriptor for "
-        392 => 8386099856933090145,
-        393 => 2334395648803103845,
-        394 => 8390322045806929252,
-        395 => 9133022035079791,
-        // 134: "."
-        396 => 46,
-        // 135: ": "
-        397 => 8250,
-        // 136: " : "
-        398 => 2112032,
-        // 137: " == "
-        399 => 540884256,
-        // 138: ", "
-        400 => 8236,
-        // 139: " & "
-        401 => 2106912,
-        // 140: "("
-        402 => 40,
-        // 141: ")"
-        403 => 41,
-        // 142: "<"
-        404 => 60,
-        // 143: ">"
-        405 => 62,
-        // 144: "["
-        406 => 91,
-        // 145: "]"
-        407 => 93,
-        // 146: "?"
-        408 => 63,
-        // 147: " where "
-        409 => 9118741256763168,
-        // 148: ".Type"
-        410 => 435678696494,
-        // 149: "inout "
-        411 => 35684558532201,
-        // 150: "variable initialization expression of "
-        412 => 7308324465835925878,
-        413 => 7809639177543117088,
-        414 => 2336927755366660713,
-        415 => 7598543875853023333,
-        416 => 35624323149423,
-        // 151: "static "
-        417 => 9116503830000755,
-        // 152: " in "
-        418 => 544106784,
-        // 153: "protocol witness for "
-        419 => 7813573208857080432,
-        420 => 8319104461757314848,
-        421 => 139358856736,
-        // 154: " in conformance "
-        422 => 7380959310843373856,
-        423 => 2334381307593585263,
-        // 155: " value witness for "
-        424 => 8583972444772070944,
-        425 => 7359008730583561321,
-        426 => 2126447,
-        // 156: " and conformance "
-        427 => 7957688057362014496,
-        428 => 7305804385252175718,
-        429 => 32,
-        // 157: "associated conformance descriptor for "
-        430 => 8386099856933090145,
-        431 => 8027224810517980261,
-        432 => 7214878080775581042,
-        433 => 8031167633701434213,
-        434 => 35675867324530,
-        // 158: "()"
-        435 => 10536,
-        // 159: "Any"
-        436 => 7958081,
-        // 160: " -> "
-        437 => 540945696,
-        // 161: " async"
-        438 => 109326135157024,
-        // 162: " throws"
-        439 => 32500942866248736,
-        // 163: "__allocating_init"
-        440 => 7017575155838836575,
-        441 => 7597125479898704244,
-        442 => 116,
-        // 164: "init"
-        443 => 1953066601,
-        // 165: "__deallocating_deinit"
-        444 => 8028911401263456095,
-        445 => 7232613250493604195,
-        446 => 499985049957,
-        // 166: "deinit"
-        _ => 127996172789092,
-    }
-}
-
-// The words 448 to 457.
-fn word_448(i: usize) -> u64
-    requires { (448 ≤ i) × (i < 458) }
-    ensures { result ≡ get_or words i 0 }
-{
-    match i {
-        // 167: "_"
-        448 => 95,
-        // 168: ") suspend resume partial function for "
-        449 => 7954887958013878313,
-        450 => 7308626908775850084,
-        451 => 7809639177693261856,
-        452 => 8028075781168391712,
-        453 => 35675867324526,
-        // 169: " with unmangled suffix \""
-        454 => 7959303549448976160,
-        455 => 2334102023150920045,
-        456 => 2459097790629180787,
-        // 170: "\""
-        _ => 34,
-    }
-}
-
-// The words of all names, one name after another. The first byte is the least significant, and the
-// last word of a name is filled with zeros.
-pub fn word(i: usize) -> u64
-    ensures { result ≡ get_or words i 0 }
-{
-    if 458 <= i {
-        return 0;
-    }
-    if i < 256 {
-        if i < 128 {
-            if i < 64 {
-                return word_0(i);
-            }
-            return word_64(i);
-        }
-        if i < 192 {
-            return word_128(i);
-        }
-        return word_192(i);
-    }
-    if i < 384 {
-        if i < 320 {
-            return word_256(i);
-        }
-        return word_320(i);
-    }
-    if i < 448 {
-        return word_384(i);
-    }
-    word_448(i)
-}
-
-// The places of the names 0 to 63.
-fn place_0(n: usize) -> usize
-    requires { n < 64 }
-    ensures { result ≡ get_or places n 0 }
-{
-    match n {
-        0 => 5,
-        1 => 67,
-        2 => 143,
-        3 => 265,
-        4 => 389,
-        5 => 481,
-        6 => 772,
-        7 => 842,
-        8 => 966,
-        9 => 1029,
-        10 => 1091,
-        11 => 1166,
-        12 => 1283,
-        13 => 1353,
-        14 => 1483,
-        15 => 1605,
-        16 => 1680,
-        17 => 1805,
-        18 => 1940,
-        19 => 2131,
-        20 => 2330,
-        21 => 2566,
-        22 => 2633,
-        23 => 2756,
-        24 => 2832,
-        25 => 2967,
-        26 => 3158,
-        27 => 3357,
-        28 => 3592,
-        29 => 3667,
-        30 => 3849,
-        31 => 3977,
-        32 => 4109,
-        33 => 4245,
-        34 => 4424,
-        35 => 4487,
-        36 => 4567,
-        37 => 4758,
-        38 => 4938,
-        39 => 5066,
-        40 => 5201,
-        41 => 5402,
-        42 => 5641,
-        43 => 5768,
-        44 => 5840,
-        45 => 5967,
-        46 => 6095,
-        47 => 6218,
-        48 => 6352,
-        49 => 6478,
-        50 => 6605,
-        51 => 6733,
-        52 => 6854,
-        53 => 6918,
-        54 => 6982,
-        55 => 7044,
-        56 => 7121,
-        57 => 7303,
-        58 => 7366,
-        59 => 7439,
-        60 => 7574,
-        61 => 7750,
-        62 => 7829,
-        _ => 8019,
-    }
-}
-
-// The places of the names 64 to 127.
-fn place_64(n: usize) -> usize
-    requires { (64 ≤ n) × (n < 128) }
-    ensures { result ≡ get_or places n 0 }
-{
-    match n {
-        64 => 8210,
-        65 => 8405,
-        66 => 8597,
-        67 => 8795,
-        68 => 9047,
-        69 => 9230,
-        70 => 9372,
-        71 => 9637,
-        72 => 9959,
-        73 => 10282,
-        74 => 10665,
-        75 => 11032,
-        76 => 11236,
-        77 => 11544,
-        78 => 11745,
-        79 => 12074,
-        80 => 12457,
-        81 => 12838,
-        82 => 13169,
-        83 => 13606,
-        84 => 13922,
-        85 => 14256,
-        86 => 14631,
-        87 => 14930,
-        88 => 15128,
-        89 => 15322,
-        90 => 15576,
-        91 => 15790,
-        92 => 16180,
-        93 => 16603,
-        94 => 16867,
-        95 => 17188,
-        96 => 17516,
-        97 => 17870,
-        98 => 17998,
-        99 => 18130,
-        100 => 18318,
-        101 => 18450,
-        102 => 18658,
-        103 => 18960,
-        104 => 19079,
-        105 => 19156,
-        106 => 19351,
-        107 => 19533,
-        108 => 19660,
-        109 => 19808,
-        110 => 20056,
-        111 => 20247,
-        112 => 20440,
-        113 => 20640,
-        114 => 20898,
-        115 => 21197,
-        116 => 21322,
-        117 => 21466,
-        118 => 21720,
-        119 => 21911,
-        120 => 22105,
-        121 => 22378,
-        122 => 22761,
-        123 => 23126,
-        124 => 23322,
-        125 => 23570,
-        126 => 23761,
-        _ => 23942,
-    }
-}
-
-// The places of the names 128 to 170.
-fn place_128(n: usize) -> usize
-    requires { (128 ≤ n) × (n < 171) }
-    ensures { result ≡ get_or places n 0 }
-{
-    match n {
-        128 => 24009,
-        129 => 24165,
-        130 => 24485,
-        131 => 24800,
-        132 => 25031,
-        133 => 25119,
-        134 => 25345,
-        135 => 25410,
-        136 => 25475,
-        137 => 25540,
-        138 => 25602,
-        139 => 25667,
-        140 => 25729,
-        141 => 25793,
-        142 => 25857,
-        143 => 25921,
-        144 => 25985,
-        145 => 26049,
-        146 => 26113,
-        147 => 26183,
-        148 => 26245,
-        149 => 26310,
-        150 => 26406,
-        151 => 26695,
-        152 => 26756,
-        153 => 26837,
-        154 => 27024,
-        155 => 27155,
-        156 => 27345,
-        157 => 27558,
-        158 => 27842,
-        159 => 27907,
-        160 => 27972,
-        161 => 28038,
-        162 => 28103,
-        163 => 28177,
-        164 => 28356,
-        165 => 28437,
-        166 => 28614,
-        167 => 28673,
-        168 => 28774,
-        169 => 29080,
-        _ => 29249,
-    }
-}
-
-// Returns the position of name n in one number: 64 times the index of its first word, plus its
-// length.
-fn place(n: usize) -> usize
-    ensures { result ≡ get_or places n 0 }
-{
-    if 171 <= n {
-        return 0;
-    }
-    if n < 64 {
-        return place_0(n);
-    }
-    if n < 128 {
-        return place_64(n);
-    }
-    place_128(n)
-}
-
-// Returns the position of name n, or an empty part past the last name.
-pub fn fixed_name(n: usize) -> Part
-    ensures { Named n result }
-{
-    let p = place(n);
-    Part {
-        first: p / 64,
-        len: p % 64,
-    }
+    b""
 }

@@ -1,4 +1,0 @@
-pub mod Places
-pub mod Passed
-pub mod Answered
-pub mod Listed

@@ -1,25 +1,22 @@
 -- The counts after `r`, one at a time. Assumes nothing.
-use Rattle.std.specs.Prelude.{◌≡◌, ℕ, ◌+◌, ◌^◌, ◌<◌, Bool, if◌then◌else◌}
+use Rattle.std.specs.Prelude as Prelude
+use Rattle.std.specs.Prelude.{ℕ, Bool, Result, Some, None, if◌then◌else◌}
 use Rattle.std.proofs.Math.Option.{Option, some, none}
-use Rattle.definition.specs.Base.{Out, refused, is, ret, ◌>>=◌, ◌>>◌}
-use Rattle.definition.specs.Text.{Text, Lex, next_if, index_plus_one}
-use Rattle.definition.specs.Enums as Enums
-use Rattle.text_cursor.specs.declared.Cursor.{Cursor}
-use Rattle.operator_operands.specs.declared.signatures.CountRead.{CountRead}
-use Rattle.operator_operands.specs.declared.signatures.CountRead.TheVariants as CountRead
+use Rattle.definition.specs.Base.{is, ret, ◌>>=◌}
+use Rattle.definition.specs.Text.{Lex, next_if, index_plus_one}
+use Rattle.definition.specs.declared.Refusal.{Refusal}
+use Rattle.text_cursor.specs.Reads.{Reads}
+use Rattle.text_cursor.specs.declared.Reader.{Reader}
 use Rattle.definition.specs.Budget.{most_wraps}
 use Rattle.definition.specs.Operators.{Operator, generic_signature, counts}
-use Rattle.operator_operands.specs.OperatorReads.{Stands}
 
--- one turn of `counts`; a count fits 64 bits
-pub record Counted (out : Out Text (Option ℕ)) (n : ℕ) (text : Text) (least : ℕ) (c : Cursor) : Type 0 where
-  pub stands : Stands out (some n) text least c
-  pub small : n < 2 ^ 64
+-- a count, or none after the last
+abbrev pub count_if_any : Prelude.Option ℕ → Option ℕ
+count_if_any (Some n) = some n
+count_if_any None = none
 
-abbrev pub Turned : Out Text (Option ℕ) → Text → ℕ → CountRead → Type 0
-Turned out text from (CountRead.Closed c) = Stands out none text (from + 1) c
-Turned out text from (CountRead.Count n c) = Counted out n text (from + 1) c
-Turned out text from (CountRead.Refused f) = out ≡ refused (Enums.number f)
+abbrev pub ReadsCount : Lex (Option ℕ) → Reader → Reader → Result (Prelude.Option ℕ) Refusal → Type 0
+ReadsCount = Reads count_if_any 1
 
 abbrev pub signature_letters : Lex Operator
 signature_letters = counts most_wraps 0 >>= λ n. ret (generic_signature n)

@@ -1,4 +1,3 @@
-pub mod Letters
 pub mod OperatorReads
 pub mod Standard
 pub mod Counts

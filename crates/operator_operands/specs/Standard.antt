@@ -1,18 +1,21 @@
 -- Parts of the definition's steps after `S`. Assumes nothing.
-use Rattle.std.specs.Prelude.{◌&&◌, [], ◌∷◌, ℕ, ltb, leb, get_or}
-use Rattle.definition.specs.Base.{pick, ret, or_refuse, unless, ◌>>=◌, ◌>>◌}
+use Rattle.std.specs.Prelude as Prelude
+use Rattle.std.specs.Prelude.{◌&&◌, ℕ, ltb, leb, Some, None}
+use Rattle.std.proofs.Math.Option.{Option, some, none}
+use Prim.Native.String.{String}
+use Rattle.definition.specs.Base.{unless, ◌>>=◌, ◌>>◌}
 use Rattle.definition.specs.Text.{Lex, next}
-use Rattle.definition.specs.Node.{NominalKind, Struct, Enum, Protocol}
+use Rattle.definition.specs.Node as Node
 use Rattle.definition.specs.Budget.{most_steps}
-use Rattle.definition.specs.Operators.{Operator, standard_nominal, standard, standard_letter, standard_types}
+use Rattle.definition.specs.Operators.{Operator, standard_letter}
+use Rattle.definition.specs.Enums as Enums
+use Rattle.definition.specs.declared.NominalKind.{NominalKind}
+use Rattle.operator_names.specs.Fixed.{fixed}
 
--- `S`
--- a kind of the table of standard types
-unfoldable pub standard_kind : ℕ → NominalKind
-standard_kind k = get_or (Struct ∷ Enum ∷ []) k Protocol
-
-abbrev pub standard_type_letter : ℕ → ℕ → Lex Operator
-standard_type_letter repeat b = or_refuse 9 (pick b standard_types) >>= λ s. ret (standard repeat (standard_nominal s.0 s.1))
+-- the entry of the table of standard types that a kind and the number of a name represent
+abbrev pub entry : Prelude.Option (NominalKind × ℕ) → Option (Node.NominalKind × String)
+entry (Some s) = some (Enums.nominal_kind s.0, fixed s.1)
+entry None = none
 
 -- the rest of `standard_letters`, after the count
 abbrev pub repeated : ℕ → Lex Operator

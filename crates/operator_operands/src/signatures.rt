@@ -1,71 +1,37 @@
 // `r`: the counts of a generic signature.
-ghost use Rattle.std.specs.Prelude.{◌≤◌, ◌<◌, length, drop};
-ghost use Rattle.operator_operands.specs.Counts.{signature_letters, count, Turned};
-ghost use Rattle.definition.specs.declared.Operator.TheVariants as Operator;
-ghost use Rattle.operator_operands.specs.OperatorReads.{Operated};
+ghost use Rattle.operator_operands.specs.Counts.{signature_letters, count, ReadsCount};
+ghost use Rattle.operator_operands.specs.OperatorReads.{ReadsOperator};
 
-use crate::OperatorRead;
 use definition::{Operator, Refusal};
 use machine::budget::Budget;
-use text_cursor::{Cursor, Number};
+use text_cursor::Reader;
 
-// One turn of the counts after `r`.
-#[derive(Clone, Copy)]
-pub enum CountRead {
-    Closed(Cursor),
-    Count(usize, Cursor),
-    Refused(Refusal),
+// Reads the next count after `r`, or the `l` that ends the counts.
+fn count(text: &mut Reader) -> Result<Option<usize>, Refusal>
+    ensures { ReadsCount count text.old text.new result }
+{
+    if text.next_if(b'l') {
+        return Ok(None);
+    }
+    if text.next_if(b'z') {
+        return Ok(Some(0));
+    }
+    Ok(Some(text.index_plus_one()?))
 }
 
-fn one_count(text: &[u8], c: Cursor) -> CountRead
-    requires { c.at ≤ length text.now }
-    ensures { Turned (count (drop c.at text.now)) text.now c.at result }
+// Reads what follows `r`: counts, and the `l` that ends them.
+pub fn generic_signature(text: &mut Reader) -> Result<Operator, Refusal>
+    ensures { ReadsOperator signature_letters text.old text.new result }
 {
-    let end = text_cursor::next_if(text, c, b'l');
-    let closed = end.taken;
-    let next = end.next;
-    if closed {
-        return CountRead::Closed(next);
-    }
-    let z = text_cursor::next_if(text, next, b'z');
-    let none = z.taken;
-    let after = z.next;
-    if none {
-        return CountRead::Count(0, after);
-    }
-    match text_cursor::index_plus_one(text, after) {
-        Number::Read(n, stop) => CountRead::Count(n, stop),
-        Number::Refused(f) => CountRead::Refused(f),
-    }
-}
-
-pub fn generic_signature(text: &[u8], c: Cursor) -> OperatorRead
-    requires { c.at ≤ length text.now }
-    ensures { Operated (signature_letters (drop c.at text.now)) text.now c.at result }
-{
-    let mut at = c.at;
     let mut params = 0;
-    let mut left = Budget::MOST_WRAPS;
-    while 0 < left {
-        match one_count(text, Cursor { at }) {
-            CountRead::Closed(next) => {
-                return OperatorRead::Read(Operator::GenericSignature(params), next);
-            }
-            CountRead::Refused(f) => {
-                return OperatorRead::Refused(f);
-            }
-            CountRead::Count(n, next) => {
-                params = n;
-                at = next.at;
-            }
-        }
-        left -= 1;
+    for _ in 0..Budget::MOST_WRAPS {
+        let Some(n) = count(text)? else {
+            return Ok(Operator::GenericSignature(params));
+        };
+        params = n;
     }
-    let end = text_cursor::next_if(text, Cursor { at }, b'l');
-    let closed = end.taken;
-    let next = end.next;
-    if closed {
-        return OperatorRead::Read(Operator::GenericSignature(params), next);
+    if text.next_if(b'l') {
+        return Ok(Operator::GenericSignature(params));
     }
-    OperatorRead::Refused(Refusal::Nesting)
+    Err(Refusal::Nesting)
 }

@@ -1,107 +1,103 @@
 // `S`: standard types and modules.
-ghost use Rattle.std.specs.Prelude.{◌≡◌, ◌≤◌, ◌<◌, length, drop};
-ghost use Rattle.definition.specs.Text as Text;
+ghost use Rattle.std.specs.Prelude.{◌≡◌};
+ghost use Rattle.definition.specs.Base.{pick};
 ghost use Rattle.definition.specs.Operators as Op;
-ghost use Rattle.definition.specs.Enums as Enums;
-ghost use Rattle.operator_operands.specs.Standard.{standard_kind, standard_type_letter, repeated};
-ghost use Rattle.definition.specs.declared.Operator.TheVariants as Operator;
-ghost use Rattle.operator_operands.specs.OperatorReads.{Operated};
+ghost use Rattle.operator_operands.specs.Standard.{entry, repeated};
+ghost use Rattle.operator_operands.specs.OperatorReads.{ReadsOperator};
 
-use crate::{OperatorRead, place_of};
+use crate::names;
 use definition::{Leaf, NominalKind, Operator, Refusal};
 use machine::budget::Budget;
-use text_cursor::{Byte, Cursor, Number, wide};
+use text_cursor::Reader;
 
-// The codes of STANDARD_KINDS.
-const STRUCT: u8 = 0;
-
-const ENUM: u8 = 1;
-
-const PROTOCOL: u8 = 2;
-
-// The standard types: how many there are, their letters, the codes of their kinds, and the numbers
-// of their names.
-const STANDARD_TYPES: usize = 48;
-
-const STANDARD_LETTERS: [u8; STANDARD_TYPES] = *b"aAbDdfhIiJNnOPpRrSsuVvWwqBEeFGHjKkLlMmQTtUXxYyZz";
-
-const STANDARD_KINDS: [u8; STANDARD_TYPES] = [
-    STRUCT, STRUCT, STRUCT, STRUCT, STRUCT, STRUCT, STRUCT, STRUCT, STRUCT, STRUCT, STRUCT, STRUCT,
-    STRUCT, STRUCT, STRUCT, STRUCT, STRUCT, STRUCT, STRUCT, STRUCT, STRUCT, STRUCT, STRUCT, STRUCT,
-    ENUM, PROTOCOL, PROTOCOL, PROTOCOL, PROTOCOL, PROTOCOL, PROTOCOL, PROTOCOL, PROTOCOL, PROTOCOL,
-    PROTOCOL, PROTOCOL, PROTOCOL, PROTOCOL, PROTOCOL, PROTOCOL, PROTOCOL, PROTOCOL, PROTOCOL,
-    PROTOCOL, PROTOCOL, PROTOCOL, PROTOCOL, PROTOCOL,
-];
-
-const STANDARD_NAMES: [u8; STANDARD_TYPES] = [
-    4, 5, 6, 7, 8, 9, 10, 11, 12, 13, 14, 15, 16, 17, 18, 19, 20, 21, 22, 23, 24, 25, 26, 27, 28,
-    29, 30, 31, 32, 33, 34, 35, 36, 37, 38, 39, 40, 41, 42, 43, 44, 45, 46, 47, 48, 49, 50, 51,
-];
-
-fn standard_kind(k: u8) -> NominalKind
-    ensures { Enums.nominal_kind result ≡ standard_kind k }
+// The standard type of a letter: its kind, and the number of its name.
+fn standard_type(b: u8) -> Option<(NominalKind, usize)>
+    ensures { entry result ≡ pick b Op.standard_types }
 {
-    match k {
-        STRUCT => NominalKind::Struct,
-        ENUM => NominalKind::Enum,
-        _ => NominalKind::Protocol,
-    }
-}
-
-fn standard_type(c: Cursor, repeat: usize, b: u8) -> OperatorRead
-    ensures { (t : Text.Text) → c.at ≤ length t → Operated (standard_type_letter repeat b (drop c.at t)) t c.at result }
-{
-    let i = place_of(&STANDARD_LETTERS, b);
-    if i < STANDARD_TYPES {
-        let kind = standard_kind(STANDARD_KINDS[i]);
-        let name = wide(STANDARD_NAMES[i]);
-        return OperatorRead::Read(
-            Operator::Standard(repeat, Leaf::StandardNominal(kind, name)),
-            c,
-        );
-    }
-    OperatorRead::Refused(Refusal::Spelling)
-}
-
-fn standard_letter(c: Cursor, repeat: usize, b: u8) -> OperatorRead
-    ensures { (t : Text.Text) → c.at ≤ length t → Operated (Op.standard_letter repeat b (drop c.at t)) t c.at result }
-{
-    if b == b'g' {
-        return OperatorRead::Read(Operator::Optional(repeat), c);
-    }
-    if b == b'o' {
-        return OperatorRead::Read(Operator::Standard(repeat, Leaf::Module(1)), c);
-    }
-    if b == b'C' {
-        return OperatorRead::Read(Operator::Standard(repeat, Leaf::Module(2)), c);
-    }
-    standard_type(c, repeat, b)
+    Some(match b {
+        b'a' => (NominalKind::Struct, names::ARRAY),
+        b'A' => (
+            NominalKind::Struct,
+            names::AUTORELEASING_UNSAFE_MUTABLE_POINTER,
+        ),
+        b'b' => (NominalKind::Struct, names::BOOL),
+        b'D' => (NominalKind::Struct, names::DICTIONARY),
+        b'd' => (NominalKind::Struct, names::DOUBLE),
+        b'f' => (NominalKind::Struct, names::FLOAT),
+        b'h' => (NominalKind::Struct, names::SET),
+        b'I' => (NominalKind::Struct, names::DEFAULT_INDICES),
+        b'i' => (NominalKind::Struct, names::INT),
+        b'J' => (NominalKind::Struct, names::CHARACTER),
+        b'N' => (NominalKind::Struct, names::CLOSED_RANGE),
+        b'n' => (NominalKind::Struct, names::RANGE),
+        b'O' => (NominalKind::Struct, names::OBJECT_IDENTIFIER),
+        b'P' => (NominalKind::Struct, names::UNSAFE_POINTER),
+        b'p' => (NominalKind::Struct, names::UNSAFE_MUTABLE_POINTER),
+        b'R' => (NominalKind::Struct, names::UNSAFE_BUFFER_POINTER),
+        b'r' => (NominalKind::Struct, names::UNSAFE_MUTABLE_BUFFER_POINTER),
+        b'S' => (NominalKind::Struct, names::STRING),
+        b's' => (NominalKind::Struct, names::SUBSTRING),
+        b'u' => (NominalKind::Struct, names::U_INT),
+        b'V' => (NominalKind::Struct, names::UNSAFE_RAW_POINTER),
+        b'v' => (NominalKind::Struct, names::UNSAFE_MUTABLE_RAW_POINTER),
+        b'W' => (NominalKind::Struct, names::UNSAFE_RAW_BUFFER_POINTER),
+        b'w' => (
+            NominalKind::Struct,
+            names::UNSAFE_MUTABLE_RAW_BUFFER_POINTER,
+        ),
+        b'q' => (NominalKind::Enum, names::OPTIONAL),
+        b'B' => (NominalKind::Protocol, names::BINARY_FLOATING_POINT),
+        b'E' => (NominalKind::Protocol, names::ENCODABLE),
+        b'e' => (NominalKind::Protocol, names::DECODABLE),
+        b'F' => (NominalKind::Protocol, names::FLOATING_POINT),
+        b'G' => (NominalKind::Protocol, names::RANDOM_NUMBER_GENERATOR),
+        b'H' => (NominalKind::Protocol, names::HASHABLE),
+        b'j' => (NominalKind::Protocol, names::NUMERIC),
+        b'K' => (NominalKind::Protocol, names::BIDIRECTIONAL_COLLECTION),
+        b'k' => (NominalKind::Protocol, names::RANDOM_ACCESS_COLLECTION),
+        b'L' => (NominalKind::Protocol, names::COMPARABLE),
+        b'l' => (NominalKind::Protocol, names::COLLECTION),
+        b'M' => (NominalKind::Protocol, names::MUTABLE_COLLECTION),
+        b'm' => (NominalKind::Protocol, names::RANGE_REPLACEABLE_COLLECTION),
+        b'Q' => (NominalKind::Protocol, names::EQUATABLE),
+        b'T' => (NominalKind::Protocol, names::SEQUENCE),
+        b't' => (NominalKind::Protocol, names::ITERATOR_PROTOCOL),
+        b'U' => (NominalKind::Protocol, names::UNSIGNED_INTEGER),
+        b'X' => (NominalKind::Protocol, names::RANGE_EXPRESSION),
+        b'x' => (NominalKind::Protocol, names::STRIDEABLE),
+        b'Y' => (NominalKind::Protocol, names::RAW_REPRESENTABLE),
+        b'y' => (NominalKind::Protocol, names::STRING_PROTOCOL),
+        b'Z' => (NominalKind::Protocol, names::SIGNED_INTEGER),
+        b'z' => (NominalKind::Protocol, names::BINARY_INTEGER),
+        _ => return None,
+    })
 }
 
 // Checks the count and reads the letter after it.
-fn standard_repeat(text: &[u8], c: Cursor, repeat: usize) -> OperatorRead
-    ensures { Operated (repeated repeat (drop c.at text.now)) text.now c.at result }
+fn repeated(text: &mut Reader, repeat: usize) -> Result<Operator, Refusal>
+    ensures { ReadsOperator (repeated repeat) text.old text.new result }
 {
-    if repeat == 0 {
-        return OperatorRead::Refused(Refusal::Spelling);
+    if repeat == 0 || Budget::MOST_STEPS < repeat {
+        return Err(Refusal::Spelling);
     }
-    if Budget::MOST_STEPS < repeat {
-        return OperatorRead::Refused(Refusal::Spelling);
-    }
-    match text_cursor::next(text, c) {
-        Byte::Read(b, next) => standard_letter(next, repeat, b),
-        Byte::Refused(f) => OperatorRead::Refused(f),
+    match text.next()? {
+        b'g' => Ok(Operator::Optional(repeat)),
+        b'o' => Ok(Operator::Standard(repeat, Leaf::Module(names::IMPORTED_C))),
+        b'C' => Ok(Operator::Standard(repeat, Leaf::Module(names::SYNTHESIZED_C))),
+        b => {
+            let (kind, name) = standard_type(b).ok_or(Refusal::Spelling)?;
+            Ok(Operator::Standard(repeat, Leaf::StandardNominal(kind, name)))
+        }
     }
 }
 
-pub fn standard(text: &[u8], c: Cursor) -> OperatorRead
-    ensures { Operated (Op.standard_letters (drop c.at text.now)) text.now c.at result }
+// Reads what follows `S`: a count, or none for one copy, and a letter.
+pub fn standard(text: &mut Reader) -> Result<Operator, Refusal>
+    ensures { ReadsOperator Op.standard_letters text.old text.new result }
 {
-    if text_cursor::peek_is_digit(text, c) {
-        return match text_cursor::natural(text, c) {
-            Number::Read(n, next) => standard_repeat(text, next, n),
-            Number::Refused(f) => OperatorRead::Refused(f),
-        };
+    if !text.peek_is_digit() {
+        return repeated(text, 1);
     }
-    standard_repeat(text, c, 1)
+    let repeat = text.natural()?;
+    repeated(text, repeat)
 }

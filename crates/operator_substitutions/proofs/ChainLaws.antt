@@ -1,21 +1,25 @@
 -- The letters after `A`, item by item. Assumes nothing.
 use mathlib.Core.Path.{◌≡◌, refl, sym, ap, subst, ◌∙◌}
-use mathlib.Core.Bool.{Bool, true, false, ◌&&◌}
+use mathlib.Core.Bool.{Bool, true, false}
+use mathlib.Core.Logic.{inl, inr}
 use mathlib.Core.List.{List, [], ◌∷◌, ◌++◌, append_assoc, append-nil}
 use mathlib.Core.Option.{Option, some, none}
-use Prim.Native.Nat.{ℕ, zero, suc, ◌+◌, ◌-◌, ◌*◌, ◌^◌, ◌≤◌, ◌<◌, max}
+use Prim.Native.Nat.{ℕ, zero, suc, ◌+◌, ◌-◌, ◌*◌, ◌^◌, ◌≤◌, ◌<◌, min}
 use native.Mathlib.Omega.{arith}
-use native.Mathlib.Nat.{le_of_suc-le-suc, not-suc-le-zero, le_refl, max-eq_left}
-use borrow.Author.Tests.{ltb-true, ltb-false, leb-true, lt-leb, ne_eqb, eq-eqb}
-use lib.Dec.{ltb, leb, eqb}
-use lib.ListN.{length, get_or, drop, length-drop}
+use native.Mathlib.Nat.{le_of_suc-le-suc, not-suc-le-zero, le_refl}
+use borrow.Author.Tests.{ltb-true, ltb-false, lt-leb, ne_eqb}
+use lib.Dec.{ltb, eqb}
+use lib.ListN.{length}
 use Rattle.definition.specs.Base.{is, digit, lower, upper, Out, ok, refused, good, bad, pick}
 use Rattle.definition.specs.Text.{Text, peek, digits, natural}
 use Rattle.definition.specs.Operators.{operator, operators, Operator, Substitution, substitution, substitutions, substitutions_from, substitutions_letters}
-use Rattle.text_cursor.proofs.Steps.{front, ended as ended-text, digit_high, natural_reads, natural_other, peek_none, differ}
-use Rattle.operator_substitutions.specs.Chain.{Chain, ended, more, last, times_of, past_of, item, chain_from, chain_after, chain, outcome, Copied}
-use Rattle.operator_substitutions.specs.declared.SubstitutionRead.{SubstitutionRead}
-use Rattle.operator_substitutions.specs.declared.SubstitutionRead.TheVariants as SubstitutionRead
+use Rattle.text_cursor.proofs.Steps.{digit_high, natural_reads, natural_other}
+use Rattle.operator_substitutions.specs.Chain.{Chain, more, times_of, past_of, item, chain_from, chain_after, chain, outcome, Same, Item, Copied}
+use Rattle.std.specs.Prelude.{Result, Ok, Err}
+use Rattle.definition.specs.declared.Refusal.{Refusal}
+use Rattle.text_cursor.specs.Reads.{rest}
+use Rattle.text_cursor.specs.declared.Reader.{Reader}
+use Rattle.operator_substitutions.specs.declared.Copies.{Copies}
 
 -- THE REST AFTER A NUMBER
 -- the rest is no longer than k, and does not begin with a digit
@@ -112,17 +116,7 @@ pub operator_chain : (t : Text) → operator 65 t ≡ outcome (chain t)
 unfolding operator operators pick
 operator_chain t = letters_chain t
 
--- AT A PLACE OF A TEXT
-and_left : (a b : Bool) → (a && b) ≡ true → a ≡ true
-and_left true b e = refl
-and_left false b e = e
-
-pub lower_low : (b : ℕ) → lower b ≡ true → 97 ≤ b
-lower_low b e = leb-true 97 b (and_left (leb 97 b) (leb b 122) e)
-
-pub upper_low : (b : ℕ) → upper b ≡ true → 65 ≤ b
-upper_low b e = leb-true 65 b (and_left (leb 65 b) (leb b 90) e)
-
+-- A NUMBER THERE
 digit_not_lower : (b : ℕ) → digit b ≡ true → lower b ≡ false
 digit_not_lower b e = let h = digit_high b e in let l : b < 97 = omega arith in simp (lt-leb 97 b l)
 
@@ -132,99 +126,36 @@ digit_not_upper b e = let h = digit_high b e in let l : b < 65 = omega arith in 
 digit_not_past : (b : ℕ) → digit b ≡ true → eqb b 95 ≡ false
 digit_not_past b e = let h = digit_high b e in let n : b ≡ 95 → ⊥ = λ k. omega arith in ne_eqb b 95 n
 
-module _ (text : Text) (at : ℕ) (repeat : Option ℕ) where
-  pub item_end : length text ≤ at → chain_after repeat (drop at text) ≡ ended (bad 9) []
-  unfolding chain_from
-  item_end h = ap (chain_after repeat) (ended-text text at h)
+of_number : (b : ℕ) (u : Text) → digit b ≡ true → chain (b ∷ u) ≡ item (chain_from (length u)) none b u false false false (natural (b ∷ u))
+unfolding chain_from item
+of_number b u d = rw (digit_not_lower b d, digit_not_upper b d, digit_not_past b d)
 
-  module _ (h : at < length text) where
-    letter : ℕ
-    letter = get_or text at 0
+pub chain_number : (t : Text) {n : ℕ} {v : Text} → peek digit t ≡ true → length v < length t → natural t ≡ ok n v → chain t ≡ chain_after (some n) v
+unfolding peek item
+chain_number [] d l e = cc
+chain_number (b ∷ u) {n} {v} d l e =
+    of_number b u d ∙ ap (item (chain_from (length u)) none b u false false false) e ∙ chain_fuel (length u) (length v) (some n) v (omega (arith, l)) (le_refl _)
 
-    behind : Text
-    behind = drop (at + 1) text
+-- what follows a number begins with no digit
+pub number_rest : (t : Text) {n : ℕ} {v : Text} → natural t ≡ ok n v → peek digit v ≡ false
+unfolding natural peek
+number_rest [] e = cc
+number_rest (c ∷ t) e = (subst (Rest (length t)) e (natural_rest c t)).1
 
-    by_letter : Bool → Bool → Bool → Out Text ℕ → Chain
-    by_letter = item (chain_from (length behind)) repeat letter behind
-
-    number_here : natural (letter ∷ behind) ≡ natural (drop at text)
-    unfolding letter behind
-    number_here = ap natural (sym (front text at h))
-
-    here : chain_after repeat (drop at text) ≡ by_letter (lower letter) (upper letter) (eqb letter 95) (natural (letter ∷ behind))
-    unfolding chain_from letter behind by_letter
-    here = ap (chain_after repeat) (front text at h)
-
-    module _ (times i : ℕ) (e : times ≡ times_of repeat) where
-      pub item_lower : lower (get_or text at 0) ≡ true → i ≡ get_or text at 0 - 97 → chain_after repeat (drop at text) ≡ more (substitution times i) (chain (drop (at + 1) text))
-      unfolding item letter behind by_letter
-      item_lower l k =
-          here
-          ∙ ap (λ x. by_letter x (upper letter) (eqb letter 95) (natural (letter ∷ behind))) l
-          ∙ ap (λ (n : ℕ). more (substitution n (letter - 97)) (chain behind)) (sym e)
-          ∙ ap (λ (j : ℕ). more (substitution times j) (chain behind)) (sym k)
-
-      pub item_upper : lower (get_or text at 0) ≡ false → upper (get_or text at 0) ≡ true → i ≡ get_or text at 0 - 65 → chain_after repeat (drop at text) ≡ last (substitution times i) (drop (at + 1) text)
-      unfolding item letter behind by_letter
-      item_upper l u k =
-          here
-          ∙ ap (λ x. by_letter x (upper letter) (eqb letter 95) (natural (letter ∷ behind))) l
-          ∙ ap (λ x. by_letter false x (eqb letter 95) (natural (letter ∷ behind))) u
-          ∙ ap (λ (n : ℕ). last (substitution n (letter - 65)) behind) (sym e)
-          ∙ ap (λ (j : ℕ). last (substitution times j) behind) (sym k)
-
-    module _ (l : lower (get_or text at 0) ≡ false) (u : upper (get_or text at 0) ≡ false) where
-      no_case : chain_after repeat (drop at text) ≡ by_letter false false (eqb letter 95) (natural (letter ∷ behind))
-      unfolding letter
-      no_case =
-          here
-          ∙ ap (λ x. by_letter x (upper letter) (eqb letter 95) (natural (letter ∷ behind))) l
-          ∙ ap (λ x. by_letter false x (eqb letter 95) (natural (letter ∷ behind))) u
-
-      pub item_past : get_or text at 0 ≡ 95 → chain_after repeat (drop at text) ≡ last (substitution 1 (past_of repeat)) (drop (at + 1) text)
-      unfolding item letter behind by_letter
-      item_past e = no_case ∙ ap (λ x. by_letter false false x (natural (letter ∷ behind))) (eq-eqb letter 95 e)
-
-      no_letter : eqb (get_or text at 0) 95 ≡ false → chain_after repeat (drop at text) ≡ by_letter false false false (natural (drop at text))
-      unfolding letter
-      no_letter e = no_case ∙ ap (λ x. by_letter false false x (natural (letter ∷ behind))) e ∙ ap (by_letter false false false) number_here
-
-      pub item_other : (get_or text at 0 ≡ 95 → ⊥) → digit (get_or text at 0) ≡ false → chain_after repeat (drop at text) ≡ ended (bad 9) (drop (at + 1) text)
-      unfolding item behind by_letter
-      item_other n d = no_letter (ne_eqb (get_or text at 0) 95 n) ∙ ap (by_letter false false false) (natural_other text at h d)
-
-    module _ (d : digit (get_or text at 0) ≡ true) where
-      of_number : chain_after repeat (drop at text) ≡ by_letter false false false (natural (drop at text))
-      of_number = no_letter (digit_not_lower (get_or text at 0) d) (digit_not_upper (get_or text at 0) d) (digit_not_past (get_or text at 0) d)
-
-      pub item_refused : {r : ℕ} → natural (drop at text) ≡ refused r → chain_after repeat (drop at text) ≡ ended (bad r) (drop (at + 1) text)
-      unfolding item behind by_letter
-      item_refused e = of_number ∙ ap (by_letter false false false) e
-
-      pub item_number : {n : ℕ} (next : ℕ) → at + 1 ≤ next → natural (drop at text) ≡ ok n (drop next text) → chain_after repeat (drop at text) ≡ chain_after (some n) (drop next text)
-      unfolding item behind by_letter
-      item_number {n} next k e =
-          of_number
-          ∙ ap (by_letter false false false) e
-          ∙ chain_fuel (length (drop (at + 1) text)) (length (drop next text)) (some n) (drop next text) (simp length-drop (omega arith)) (le_refl _)
-
-    pub number_stops : {n : ℕ} (next : ℕ) → natural (drop at text) ≡ ok n (drop next text) → peek digit (drop next text) ≡ false
-    unfolding letter behind
-    number_stops next e = (subst (Rest (length behind)) (number_here ∙ e) (natural_rest letter behind)).1
-
--- RESULTS
--- a result of a chain is a result of the same chain, from an earlier place
-pub copied_is : (text : Text) {ch ch' : Chain} {at at' : ℕ} → ch ≡ ch' → at ≤ at' → (r : SubstitutionRead) → Copied ch' text at' r → Copied ch text at r
-copied_is text e l (SubstitutionRead.Copies t i false c) h = record { is = e ∙ h.is; some = h.some; inside = h.inside; onward = omega arith }
-copied_is text e l (SubstitutionRead.Copies t i true c) h = record { index = h.index; same = h.same; is = e ∙ h.is; some = h.some; inside = h.inside; onward = omega arith }
-copied_is text e l (SubstitutionRead.Broken f) h = record { rest = h.rest; is = e ∙ h.is }
-
-pub peek_inside : (text : Text) (at : ℕ) → peek digit (drop at text) ≡ true → at < length text
-peek_inside text at e =
-    (elim (ltb at (length text)) as (λ b. ltb at (length text) ≡ b → at < length text) [
-      | true ↦ λ k. ltb-true at (length text) k
-      | false ↦ λ k. absurd (differ (sym e ∙ peek_none text at digit (ltb-false at (length text) k)))
+-- the index of `_` after a count, or one that is past every node as well
+pub saturated : {m : ℕ} (n : ℕ) → m ≡ min (n + 27) 18446744073709551615 → Same m (n + 27)
+saturated {m} n e =
+    (elim (ltb (n + 27) 18446744073709551615) as (λ b. ltb (n + 27) 18446744073709551615 ≡ b → Same m (n + 27)) [
+      | true ↦ λ k. let h = ltb-true _ _ k in inl (omega (arith, e, h))
+      | false ↦ λ k. let h = ltb-false _ _ k in inr (omega (arith, e, h), omega (arith, h))
     ]) refl
 
-pub at_least_one : (n : ℕ) → (n ≡ 0 → ⊥) → n ≡ max n 1
-at_least_one n h = let l : 1 ≤ n = omega arith in sym (max-eq_left l)
+-- AFTER A CALL
+item_on : {ch ch' : Chain} {old mid : Reader} (new : Reader) (t i : ℕ) (last : Bool) → ch ≡ ch' → mid.text ≡ old.text → old.at ≤ mid.at → Item ch' mid new t i last → Item ch old new t i last
+item_on new t i false e k l h = record { is = e ∙ h.is; some = h.some; text = h.text ∙ k; inside = h.inside; onward = omega arith }
+item_on new t i true e k l h = record { index = h.index; same = h.same; is = e ∙ h.is; some = h.some; text = h.text ∙ k; inside = h.inside; onward = omega arith }
+
+-- an item of a chain that goes on as another, from an earlier place
+pub copied_on : {go go' : Text → Chain} {old mid new : Reader} {r : Result Copies Refusal} → go (rest old) ≡ go' (rest mid) → mid.text ≡ old.text → old.at ≤ mid.at → Copied go' mid new r → Copied go old new r
+copied_on {new = new} {r = Ok x} e t l h = record { says = item_on new x.times x.index x.last e t l h.says }
+copied_on {r = Err f} e t l h = let b = h.says in record { says = record { rest = b.rest; is = e ∙ b.is } }

@@ -1,13 +1,14 @@
 -- The letters after `A`, item by item (lines 880 to 900). Assumes nothing.
-use Rattle.std.specs.Prelude.{◌≡◌, Bool, true, false, List, [], ◌∷◌, ◌⊎◌, ℕ, zero, suc, ◌+◌, ◌-◌, ◌^◌, ◌≤◌, ◌<◌, max, length, drop}
+use Rattle.std.specs.Prelude.{◌≡◌, Bool, true, false, List, [], ◌∷◌, ◌⊎◌, ℕ, zero, suc, ◌+◌, ◌-◌, ◌^◌, ◌≤◌, ◌<◌, max, length, Result, MatchResult}
 use Rattle.std.proofs.Math.Option.{Option, some, none}
 use Rattle.definition.specs.Base.{given, is, lower, upper, Out, ok, refused, Done, Late, good, bad}
 use Rattle.definition.specs.Text.{Text, natural}
 use Rattle.definition.specs.Operators.{Operator, Substitution, substitution, substitutions}
 use Rattle.definition.specs.Enums.{number}
-use Rattle.text_cursor.specs.declared.Cursor.{Cursor}
-use Rattle.operator_substitutions.specs.declared.SubstitutionRead.{SubstitutionRead}
-use Rattle.operator_substitutions.specs.declared.SubstitutionRead.TheVariants as SubstitutionRead
+use Rattle.definition.specs.declared.Refusal.{Refusal}
+use Rattle.text_cursor.specs.Reads.{rest}
+use Rattle.text_cursor.specs.declared.Reader.{Reader}
+use Rattle.operator_substitutions.specs.declared.Copies.{Copies}
 
 -- the items, how the letters ended, and the text after them
 pub record Chain : Type 0 where
@@ -62,28 +63,33 @@ outcome ch = ok (substitutions ch.items ch.late) ch.rest
 abbrev pub Same : ℕ → ℕ → Type 0
 Same i j = (i ≡ j) ⊎ ((2 ^ 32 ≤ i) × (2 ^ 32 ≤ j))
 
--- the chain ch from the place `at` on begins with t copies of i, and continues at c
-pub record Begins (ch : Chain) (text : Text) (at t i : ℕ) (c : Cursor) : Type 0 where
-  pub is : ch ≡ more (substitution t i) (chain (drop c.at text))
+-- the chain ch begins with t copies of i, and continues at `new`
+pub record Begins (ch : Chain) (t i : ℕ) (old new : Reader) : Type 0 where
+  pub is : ch ≡ more (substitution t i) (chain (rest new))
   pub some : 0 < t
-  pub inside : c.at ≤ length text
-  pub onward : at < c.at
+  pub text : new.text ≡ old.text
+  pub inside : new.at ≤ length new.text.now
+  pub onward : old.at < new.at
 
--- it is t copies of i, and what follows the chain is at c
-pub record Ends (ch : Chain) (text : Text) (at t i : ℕ) (c : Cursor) : Type 0 where
+-- it is t copies of i, and what follows the chain is at `new`
+pub record Ends (ch : Chain) (t i : ℕ) (old new : Reader) : Type 0 where
   pub index : ℕ
   pub same : Same i index
-  pub is : ch ≡ last (substitution t index) (drop c.at text)
+  pub is : ch ≡ last (substitution t index) (rest new)
   pub some : 0 < t
-  pub inside : c.at ≤ length text
-  pub onward : at < c.at
+  pub text : new.text ≡ old.text
+  pub inside : new.at ≤ length new.text.now
+  pub onward : old.at < new.at
 
 -- it has no item
 pub record Breaks (ch : Chain) (n : ℕ) : Type 0 where
   pub rest : Text
   pub is : ch ≡ ended (bad n) rest
 
-abbrev pub Copied : Chain → Text → ℕ → SubstitutionRead → Type 0
-Copied ch text at (SubstitutionRead.Copies t i false c) = Begins ch text at t i c
-Copied ch text at (SubstitutionRead.Copies t i true c) = Ends ch text at t i c
-Copied ch text at (SubstitutionRead.Broken f) = Breaks ch (number f)
+abbrev pub Item : Chain → Reader → Reader → ℕ → ℕ → Bool → Type 0
+Item ch old new t i false = Begins ch t i old new
+Item ch old new t i true = Ends ch t i old new
+
+-- the next item of the letters at `old`, of which `go` makes a chain
+pub record Copied (go : Text → Chain) (old new : Reader) (r : Result Copies Refusal) : Type 0 where
+  pub says : MatchResult r (λ x. Item (go (rest old)) old new x.times x.index x.last) (λ f. Breaks (go (rest old)) (number f))

@@ -2,81 +2,63 @@
 #![tactic(auto)]
 
 ghost use Rattle.std.specs.Prelude.{◌≡◌, false, ◌+◌, ◌<◌, get_or};
-ghost use Rattle.text_words.specs.Table.{lent};
 ghost use Rattle.tree_records.specs.Lies.{at as field_of};
-ghost use Rattle.tree_records.specs.NamesOf.{naming};
-ghost use Rattle.print_names.specs.Naming.{Some, Alone};
+ghost use Rattle.print_names.specs.Naming.{Some, Alone, naming_of};
 ghost use Rattle.print_labels.specs.RowTexts.{World, Prints, rows, zero_or, record_form};
 ghost use Rattle.print_forms.specs.Forms.{Standard, Sugars, FormIs, Rowed};
 
 use print_labels::get;
-use print_names::named_is;
+use print_names::{Source, named_is};
 use tree_records::field;
 
 // Whether the base at place p is the standard type of a name: a nominal type of that name in a
 // module named Swift.
-fn standard(
-    ws: &[u32],
-    text: &[u8],
-    starts: &[u16; 26],
-    lengths: &[u16; 26],
-    known: usize,
-    p: usize,
-    n: usize,
-    name: &[u8],
-) -> bool
-    requires world { World text.now (lent starts.now lengths.now known) ws.now p }
-    requires some { Some (Prints (naming text.now (lent starts.now lengths.now known)) ws.now p) }
+fn standard(from: &Source, p: usize, n: usize, name: &[u8]) -> bool
+    requires world { World from.now p }
+    requires some { Some (Prints (naming_of from.now) from.now.ws.now p) }
     requires alone { Alone n name.now }
-    ensures { Standard (naming text.now (lent starts.now lengths.now known)) ws.now p name.now result }
+    ensures { Standard (naming_of from.now) from.now.ws.now p name.now result }
 {
-    let kind = get(ws, p, 0);
+    let kind = get(from.ws, p, 0);
     if kind < 2 {
         return false;
     }
     if 6 < kind {
         return false;
     }
-    let own = get(ws, p, 3);
-    if !named_is(text, starts, lengths, known, own, n, name) {
+    let own = get(from.ws, p, 3);
+    if !named_is(from, own, n, name) {
         return false;
     }
-    let context = get(ws, p, 4);
-    let outer = get(ws, context, 0);
+    let context = get(from.ws, p, 4);
+    let outer = get(from.ws, context, 0);
     if outer != 1 {
         return false;
     }
-    let module = get(ws, context, 3);
-    named_is(text, starts, lengths, known, module, 0, b"Swift")
+    let module = get(from.ws, context, 3);
+    named_is(from, module, 0, b"Swift")
 }
 
 // The sugar of the generic type at place p: 0 none, 1 Optional, 2 Array, 3 Dictionary.
-fn sugar(
-    ws: &[u32],
-    text: &[u8],
-    starts: &[u16; 26],
-    lengths: &[u16; 26],
-    known: usize,
-    p: usize,
-) -> usize
-    requires world { World text.now (lent starts.now lengths.now known) ws.now p }
-    requires some { Some (Prints (naming text.now (lent starts.now lengths.now known)) ws.now p) }
-    requires p_value { field_of ws.now p 0 ≡ 18 }
-    ensures { Sugars (naming text.now (lent starts.now lengths.now known)) ws.now p result }
+fn sugar(from: &Source, p: usize) -> usize
+    requires world { World from.now p }
+    requires some { Some (Prints (naming_of from.now) from.now.ws.now p) }
+    requires p_value { field_of from.now.ws.now p 0 ≡ 18 }
+    ensures { Sugars (naming_of from.now) from.now.ws.now p result }
 {
-    let base = get(ws, p, 3);
-    let count = get(ws, p, 4);
+    let base = get(from.ws, p, 3);
+    let count = get(from.ws, p, 4);
     if count == 1 {
-        if standard(ws, text, starts, lengths, known, base, 28, b"Optional") {
+        if standard(from, base, 28, b"Optional") {
             return 1;
         }
-        if standard(ws, text, starts, lengths, known, base, 4, b"Array") {
+        if standard(from, base, 4, b"Array") {
             return 2;
         }
         return 0;
     }
     if count == 2 {
-        if standard(ws, text, starts, lengths, known, base, 7, b"Dictionary") {
+        if standard(from, base, 7, b"Dictionary") {
             return 3;
         }
         return 0;
@@ -108,49 +90,42 @@ fn record_form(form: usize) -> usize
 }
 
 // The form of the record at place p: its kind, or a number above the kinds.
-fn form(
-    ws: &[u32],
-    text: &[u8],
-    starts: &[u16; 26],
-    lengths: &[u16; 26],
-    known: usize,
-    p: usize,
-) -> usize
-    requires world { World text.now (lent starts.now lengths.now known) ws.now p }
-    requires some { Some (Prints (naming text.now (lent starts.now lengths.now known)) ws.now p) }
-    ensures { FormIs (naming text.now (lent starts.now lengths.now known)) ws.now p result }
+fn form(from: &Source, p: usize) -> usize
+    requires world { World from.now p }
+    requires some { Some (Prints (naming_of from.now) from.now.ws.now p) }
+    ensures { FormIs (naming_of from.now) from.now.ws.now p result }
 {
-    let kind = get(ws, p, 0);
+    let kind = get(from.ws, p, 0);
     // Most records: their form is their kind.
     if kind < 12 {
         return kind;
     }
     if kind == 12 {
-        let requirements = get(ws, p, 5);
+        let requirements = get(from.ws, p, 5);
         return zero_or(requirements, 12, 40);
     }
     if kind == 15 {
-        let members = get(ws, p, 2);
+        let members = get(from.ws, p, 2);
         return zero_or(members, 15, 41);
     }
     if kind == 18 {
-        let s = sugar(ws, text, starts, lengths, known, p);
+        let s = sugar(from, p);
         return zero_or(s, 18, 41 + s);
     }
     if kind == 21 {
-        let variable = get(ws, p, 4);
-        let below = get(ws, variable, 0);
+        let variable = get(from.ws, p, 4);
+        let below = get(from.ws, variable, 0);
         if below == 20 {
             return 45;
         }
         return 21;
     }
     if kind == 23 {
-        let deallocating = get(ws, p, 3);
+        let deallocating = get(from.ws, p, 3);
         return zero_or(deallocating, 23, 35);
     }
     if kind == 26 {
-        let words = get(ws, p, 3);
+        let words = get(from.ws, p, 3);
         return record_form(words);
     }
     kind
@@ -253,18 +228,11 @@ fn row(form: usize) -> usize
 }
 
 // The row of the record at place p.
-pub fn row_of(
-    ws: &[u32],
-    text: &[u8],
-    starts: &[u16; 26],
-    lengths: &[u16; 26],
-    known: usize,
-    p: usize,
-) -> usize
-    requires world { World text.now (lent starts.now lengths.now known) ws.now p }
-    requires some { Some (Prints (naming text.now (lent starts.now lengths.now known)) ws.now p) }
-    ensures { Rowed (naming text.now (lent starts.now lengths.now known)) ws.now p result }
+pub fn row_of(from: &Source, p: usize) -> usize
+    requires world { World from.now p }
+    requires some { Some (Prints (naming_of from.now) from.now.ws.now p) }
+    ensures { Rowed (naming_of from.now) from.now.ws.now p result }
 {
-    let f = form(ws, text, starts, lengths, known, p);
+    let f = form(from, p);
     row(f)
 }

@@ -10,14 +10,15 @@ use lib.Seq.{drop-nil}
 use Rattle.definition.specs.Base.{Name, bytes, given}
 use Rattle.definition.specs.Node as D
 use Rattle.definition.specs.Print.{Element, labelled, label_at, params_from, texts}
-use Rattle.text_output.specs.Sink.{Room, Wrote, wrote_is, wrote_nothing, wrote_then}
+use Rattle.text_output.specs.Appends.{Appended, appended_is, appended_nothing, appended_then}
+use Rattle.text_output.specs.declared.Sink.{Sink}
 use Rattle.tree_records.specs.Lies.{at, LabelIs, LabelCells, absent}
 use Rattle.tree_records.specs.Holds.{Names, Named, spelled, fixed as is-fixed}
 use Rattle.print_names.specs.Texts.{text_of}
 use Rattle.print_names.specs.Texts as X
 use Rattle.print_names.specs.Naming.{Puts}
 use Rattle.print_labels.specs.declared.Labels.{Labels}
-use Rattle.print_labels.specs.RowTexts.{none_at, listed, LabelsIn, SomeLabels, behind_first, NextLabels, labels_at, label_now, prefix, NamedLabel, Labelling, own, with_labels}
+use Rattle.print_labels.specs.RowTexts.{none_at, listed, LabelsIn, SomeLabels, behind_first, NextLabels, labels_at, label_now, prefix, NamedLabel, Labelling, with_labels}
 
 -- no name has the number that says that there is none
 pub not_absent : {nm : Names} {k : ℕ} {n : Name} → Named nm k n → k ≡ absent → ⊥
@@ -71,9 +72,9 @@ module _ {ws : List ℕ} {l : Labels} where
       })
 
 -- WHAT IS SHOWN
-pub named_label : {nm : Names} {k room at₀ m r : ℕ} {o o₁ o₂ : List ℕ} → Puts (Named nm k) room o o₁ at₀ m → Wrote room o₁ o₂ m (text_of 1) r → Puts (NamedLabel nm k) room o o₂ at₀ r
+pub named_label : {nm : Names} {k : ℕ} {o o₁ o₂ : Sink} → Puts (Named nm k) o o₁ → Appended o₁ o₂ (text_of 1) → Puts (NamedLabel nm k) o o₂
 unfolding prefix text_of X.texts bytes
-named_label a b = record { next = b.next; len = b.len ∙ a.len; each = λ s h. wrote_is (sym h.is) (wrote_then (a.each h.name h.named) b) }
+named_label a b = record { same = b.same ∙ a.same; room = b.room ∙ a.room; len = b.wrote.len ∙ a.len; each = λ s h. appended_is (sym h.is) (appended_then (a.each h.name h.named) b) }
 
 module _ (nm : Names) (ws : List ℕ) (own : ℕ) (l : Labels) where
   own_only : (x : Option Name) → LabelIs (Named nm) x own → own ≡ absent → x ≡ none
@@ -87,13 +88,13 @@ module _ (nm : Names) (ws : List ℕ) (own : ℕ) (l : Labels) where
   pub own_label_of : {s : Name} → l.left ≡ 0 → (own ≡ absent → ⊥) → Labelling nm ws own l s → NamedLabel nm own s
   own_label_of z e h = own_named h.label h.own_is e (h.is ∙ ap (λ (ls : List (Option Name)). prefix (label_now ls h.label)) (shut h.are z))
 
-  module _ {room at₀ r : ℕ} {o o' : List ℕ} where
-    pub label_own : l.left ≡ 0 → (own ≡ absent → ⊥) → Puts (NamedLabel nm own) room o o' at₀ r → Puts (Labelling nm ws own l) room o o' at₀ r
-    label_own z e a = record { next = a.next; len = a.len; each = λ s h. a.each s (own_label_of z e h) }
+  module _ {o o' : Sink} where
+    pub label_own : l.left ≡ 0 → (own ≡ absent → ⊥) → Puts (NamedLabel nm own) o o' → Puts (Labelling nm ws own l) o o'
+    label_own z e a = record { same = a.same; room = a.room; len = a.len; each = λ s h. a.each s (own_label_of z e h) }
 
-  pub label_missing : {room at₀ : ℕ} {o : List ℕ} → l.left ≡ 0 → own ≡ absent → Room room o at₀ → Puts (Labelling nm ws own l) room o o at₀ at₀
+  pub label_missing : (o : Sink) → l.left ≡ 0 → own ≡ absent → Puts (Labelling nm ws own l) o o
   unfolding prefix
-  label_missing z e h = record { next = h; len = refl; each = λ s k. wrote_is (sym (k.is ∙ ap (λ (ls : List (Option Name)). prefix (label_now ls k.label)) (shut k.are z) ∙ ap prefix (own_only k.label k.own_is e))) (wrote_nothing h) }
+  label_missing o z e = record { same = refl; room = refl; len = refl; each = λ s k. appended_is (sym (k.is ∙ ap (λ (ls : List (Option Name)). prefix (label_now ls k.label)) (shut k.are z) ∙ ap prefix (own_only k.label k.own_is e))) (appended_nothing o) }
 
   -- the number of the first of the labels
   abbrev pub first_number : ℕ
@@ -113,15 +114,16 @@ module _ (nm : Names) (ws : List ℕ) (own : ℕ) (l : Labels) where
   pub first_label_of : {s : Name} → (l.left ≡ 0 → ⊥) → (first_number ≡ absent → ⊥) → Labelling nm ws own l s → NamedLabel nm first_number s
   first_label_of z e h = let o = open_labels h.are z in first_name o.first o.first_is e (first_text h o)
 
-  module _ {room at₀ r : ℕ} {o o' : List ℕ} where
-    pub label_marker : {o₁ : List ℕ} {m : ℕ} → (l.left ≡ 0 → ⊥) → first_number ≡ absent → Wrote room o o₁ at₀ (text_of 33) m → Wrote room o₁ o' m (text_of 1) r → Puts (Labelling nm ws own l) room o o' at₀ r
+  module _ {o o' : Sink} where
+    pub label_marker : {o₁ : Sink} → (l.left ≡ 0 → ⊥) → first_number ≡ absent → Appended o o₁ (text_of 33) → Appended o₁ o' (text_of 1) → Puts (Labelling nm ws own l) o o'
     unfolding prefix text_of X.texts bytes
     label_marker z e a b = record {
-      next = b.next;
-      len = b.len ∙ a.len;
+      same = b.same ∙ a.same;
+      room = b.room ∙ a.room;
+      len = b.wrote.len ∙ a.wrote.len;
       each = λ s h.
           let u = open_labels h.are z in
-          wrote_is (sym (first_text h u ∙ ap (λ (x : Option Name). prefix (some (given x (bytes "_") (λ n. n)))) (first_marker u.first u.first_is e))) (wrote_then a b);
+          appended_is (sym (first_text h u ∙ ap (λ (x : Option Name). prefix (some (given x (bytes "_") (λ n. n)))) (first_marker u.first u.first_is e))) (appended_then a b);
     }
 
 -- THE DEFINITION'S LABELS
@@ -185,9 +187,9 @@ module _ (nm : Names) (ws : List ℕ) (own : ℕ) (l : Labels) {cell k : ℕ} (c
   pub first_is_named : {s : Name} → (l.left ≡ 0 → ⊥) → (k ≡ absent → ⊥) → Labelling nm ws own l s → NamedLabel nm k s
   first_is_named {s} z f h = subst (λ (j : ℕ). NamedLabel nm j s) (sym number) (first_label_of nm ws own l z (λ (x : first_number nm ws own l ≡ absent). f (number ∙ x)) h)
 
-  module _ {room at₀ r : ℕ} {o o' : List ℕ} where
-    pub puts_first : (l.left ≡ 0 → ⊥) → (k ≡ absent → ⊥) → Puts (NamedLabel nm k) room o o' at₀ r → Puts (Labelling nm ws own l) room o o' at₀ r
-    puts_first z f a = record { next = a.next; len = a.len; each = λ s h. a.each s (first_is_named z f h) }
+  module _ {o o' : Sink} where
+    pub puts_first : (l.left ≡ 0 → ⊥) → (k ≡ absent → ⊥) → Puts (NamedLabel nm k) o o' → Puts (Labelling nm ws own l) o o'
+    puts_first z f a = record { same = a.same; room = a.room; len = a.len; each = λ s h. a.each s (first_is_named z f h) }
 
-    pub puts_marker : {o₁ : List ℕ} {m : ℕ} → (l.left ≡ 0 → ⊥) → k ≡ absent → Wrote room o o₁ at₀ (text_of 33) m → Wrote room o₁ o' m (text_of 1) r → Puts (Labelling nm ws own l) room o o' at₀ r
+    pub puts_marker : {o₁ : Sink} → (l.left ≡ 0 → ⊥) → k ≡ absent → Appended o o₁ (text_of 33) → Appended o₁ o' (text_of 1) → Puts (Labelling nm ws own l) o o'
     puts_marker z f a b = label_marker nm ws own l z (sym number ∙ f) a b

@@ -3,24 +3,23 @@
 use Rattle.std.specs.Prelude.{◌≡◌, Bool, true, false, ◌&&◌, List, [], ◌∷◌, ◌++◌, ℕ, ◌+◌, ◌-◌, ◌*◌, ◌/◌, ◌%◌, ◌^◌, ◌≤◌, ◌<◌, eqb, ltb, length, get_or, if◌then◌else◌}
 use Rattle.std.proofs.Math.Option.{Option, some, none}
 use Rattle.definition.specs.Base.{Name, bytes, given}
-use Rattle.definition.specs.Text.{Text}
 use Rattle.definition.specs.Kind as K
 use Rattle.definition.specs.Node as D
 use Rattle.definition.specs.Node.{Node, Nodes, many}
 use Rattle.definition.specs.Operators.{suspend_resume_text}
 use Rattle.definition.specs.Print.{Printed, Element, labelled, effects, join, generic_param_name, param_names, printing, printed_elements, print}
-use Rattle.text_words.specs.declared.Words.{Words}
 use Rattle.tree_records.specs.Lies.{at, Child, LabelIs, LabelCells, Cells, Lies, absent}
 use Rattle.tree_records.specs.Holds.{Names, Named}
 use Rattle.print_names.specs.Texts.{text_of, sep_before}
 use Rattle.print_names.specs.Naming.{Known}
+use Rattle.print_names.specs.declared.Source.{Source}
 use Rattle.print_names.proofs.Lists.{left}
 use Rattle.print_labels.specs.declared.Labels.{Labels}
 
 -- what is needed to read at place p: the names are known, and the record is inside the workspace
-pub record World (text : Text) (w : Words) (ws : List ℕ) (p : ℕ) : Type 0 where
-  pub known : Known text w
-  pub long : 8 * p + 8 ≤ length ws
+pub record World (s : Source) (p : ℕ) : Type 0 where
+  pub known : Known s
+  pub long : 8 * p + 8 ≤ length s.ws.now
 
 -- LABELS
 -- the record that holds the first of the labels is inside the workspace

@@ -2,20 +2,32 @@
 #![tactic(auto)]
 
 ghost use Rattle.std.specs.Prelude.{◌≡◌, ◌+◌, ◌*◌, ◌≤◌, ◌<◌, ◌^◌, length};
-ghost use Rattle.text_output.specs.Sink.{Room};
-ghost use Rattle.text_words.specs.Table.{lent};
 ghost use Rattle.tree_records.specs.Lies.{at as field_of};
-ghost use Rattle.tree_records.specs.NamesOf.{naming};
-ghost use Rattle.print_names.specs.Naming.{Known, Puts, Some};
 ghost use Rattle.tree_records.specs.Holds.{Named};
+ghost use Rattle.print_names.specs.Naming.{Known, Puts, Some, naming_of};
 ghost use Rattle.print_labels.specs.RowTexts.{Reach, SomeLabels, none_at, labels_at, NextLabels, NamedLabel, Labelling, own_label, wide_at};
 
-use print_names::{put_named, put_text};
+use operator_names::Text;
+use print_names::{Source, put_named, put_text};
+use text_output::Sink;
 use tree_records::{field, wide};
+
+// The fields of a record that are read here: the name of a cell's label, the next cell, and of a
+// function or initializer the first cell of its labels and one more than their number.
+const LABEL: usize = 3;
+
+const NEXT: usize = 5;
+
+const LABELS: usize = 6;
+
+const LABEL_COUNT: usize = 7;
+
+// The number that stands for no label.
+pub const ABSENT: usize = 4294967295;
 
 // The labels of a function that are still to be used: how many cells, and the field of the record
 // at host that has the place of the first.
-#[derive(Clone, Copy)]
+#[derive(Clone, Copy, Debug)]
 pub struct Labels {
     host: usize,
     field: usize,
@@ -47,18 +59,10 @@ pub fn labels_of(ws: &[u32], p: usize) -> Labels
     requires { 8 * p + 8 ≤ length ws.now }
     ensures { result ≡ labels_at ws.now p }
 {
-    let n = get(ws, p, 7);
-    if n == 0 {
-        return Labels {
-            host: p,
-            field: 6,
-            left: 0,
-        };
-    }
     Labels {
         host: p,
-        field: 6,
-        left: n - 1,
+        field: LABELS,
+        left: get(ws, p, LABEL_COUNT).saturating_sub(1),
     }
 }
 
@@ -68,7 +72,7 @@ pub fn no_labels(p: usize) -> Labels
 {
     Labels {
         host: p,
-        field: 6,
+        field: LABELS,
         left: 0,
     }
 }
@@ -78,17 +82,13 @@ pub fn next_labels(ws: &[u32], l: Labels) -> Labels
     requires { SomeLabels ws.now l }
     ensures { NextLabels ws.now l result }
 {
-    let left = l.left;
-    if left == 0 {
+    if l.left == 0 {
         return l;
     }
-    let host = l.host;
-    let k = l.field;
-    let cell = get(ws, host, k);
     Labels {
-        host: cell,
-        field: 5,
-        left: left - 1,
+        host: get(ws, l.host, l.field),
+        field: NEXT,
+        left: l.left - 1,
     }
 }
 
@@ -97,66 +97,39 @@ pub fn own_label(ws: &[u32], p: usize, shown: bool) -> usize
     requires { 8 * p + 8 ≤ length ws.now }
     ensures { result ≡ own_label ws.now p shown }
 {
-    if shown {
-        return get(ws, p, 3);
-    }
-    4294967295
+    if shown { get(ws, p, LABEL) } else { ABSENT }
 }
 
 // Appends a label and `: `.
-fn put_named_label(
-    out: &mut [u8],
-    at: usize,
-    room: usize,
-    text: &[u8],
-    starts: &[u16; 26],
-    lengths: &[u16; 26],
-    known: usize,
-    k: usize,
-) -> usize
-    requires room { Room room out.old at }
-    requires known { Known text.now (lent starts.now lengths.now known) }
-    requires some { Some (Named (naming text.now (lent starts.now lengths.now known)) k) }
-    ensures { Puts (NamedLabel (naming text.now (lent starts.now lengths.now known)) k) room out.old out.new at result }
+fn put_named_label(out: &mut Sink, from: &Source, k: usize)
+    requires known { Known from.now }
+    requires some { Some (Named (naming_of from.now) k) }
+    ensures { Puts (NamedLabel (naming_of from.now) k) out.old out.new }
 {
-    let r = put_named(out, at, room, text, starts, lengths, known, k);
-    put_text(out, r, room, 1)
+    put_named(out, from, k);
+    put_text(out, Text::Colon as usize);
 }
 
 // Appends the label of a parameter and `: `. This is the first of the labels, `_` where it is the
 // marker, or otherwise the parameter's own label, if there is one.
-pub fn put_label(
-    out: &mut [u8],
-    at: usize,
-    room: usize,
-    ws: &[u32],
-    text: &[u8],
-    starts: &[u16; 26],
-    lengths: &[u16; 26],
-    known: usize,
-    own: usize,
-    l: Labels,
-) -> usize
-    requires room { Room room out.old at }
-    requires known { Known text.now (lent starts.now lengths.now known) }
-    requires reach { Reach ws.now l }
-    requires some { Some (Labelling (naming text.now (lent starts.now lengths.now known)) ws.now own l) }
-    ensures { Puts (Labelling (naming text.now (lent starts.now lengths.now known)) ws.now own l) room out.old out.new at result }
+pub fn put_label(out: &mut Sink, from: &Source, own: usize, l: Labels)
+    requires known { Known from.now }
+    requires reach { Reach from.now.ws.now l }
+    requires some { Some (Labelling (naming_of from.now) from.now.ws.now own l) }
+    ensures { Puts (Labelling (naming_of from.now) from.now.ws.now own l) out.old out.new }
 {
-    let left = l.left;
-    if left == 0 {
-        if own == 4294967295 {
-            return at;
+    if l.left == 0 {
+        if own != ABSENT {
+            put_named_label(out, from, own);
         }
-        return put_named_label(out, at, room, text, starts, lengths, known, own);
+        return;
     }
-    let host = l.host;
-    let at_field = l.field;
-    let cell = get(ws, host, at_field);
-    let k = get(ws, cell, 3);
-    if k == 4294967295 {
-        let r = put_text(out, at, room, 33);
-        return put_text(out, r, room, 1);
+    let cell = get(from.ws, l.host, l.field);
+    let label = get(from.ws, cell, LABEL);
+    if label == ABSENT {
+        put_text(out, Text::Underscore as usize);
+        put_text(out, Text::Colon as usize);
+        return;
     }
-    put_named_label(out, at, room, text, starts, lengths, known, k)
+    put_named_label(out, from, label);
 }

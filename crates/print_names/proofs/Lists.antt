@@ -9,7 +9,8 @@ use lib.ListN.{get_or}
 use Rattle.definition.specs.Base.{Name, bytes, decimal}
 use Rattle.definition.specs.Operators.{suspend_resume_text}
 use Rattle.definition.specs.Print.{join, generic_param_name, param_names, effects}
-use Rattle.text_output.specs.Sink.{Room, Wrote, Rest, rest_start, rest_then, rest_is, rest_end, rest_past}
+use Rattle.text_output.specs.Appends.{Appended, Rest, rest_start, rest_then, rest_is, rest_end, rest_past}
+use Rattle.text_output.specs.declared.Sink.{Sink}
 use Rattle.print_names.specs.Texts.{texts, text_of, sep_before}
 
 -- each text preceded by the text with number n
@@ -88,22 +89,22 @@ unfolding suspend_resume_text text_of texts bytes
 suspend_resume_is n = refl
 
 -- the loop over the generic parameters' names
-pub record Listing (room : ℕ) (o₀ : List ℕ) (at₀ count : ℕ) (o : List ℕ) (i r : ℕ) : Type 0 where
-  pub rest : Rest room o₀ at₀ (join ", " (param_names count 0)) o r (left 4 i (param_names (count - i) i))
+pub record Listing (o₀ o : Sink) (count i : ℕ) : Type 0 where
+  pub rest : Rest o₀ (join ", " (param_names count 0)) o (left 4 i (param_names (count - i) i))
 
-pub listing_first : {room at count : ℕ} {o : List ℕ} → Room room o at → Listing room o at count o 0 at
+pub listing_first : (o : Sink) (count : ℕ) → Listing o o count 0
 unfolding texts
-listing_first {room} {at} {count} {o} h =
+listing_first o count =
     let z : count - 0 ≡ count = omega arith in
-    record { rest = rest_is (sym (ap (λ (k : ℕ). left 4 0 (param_names k 0)) z ∙ left_first 4 (param_names count 0))) (rest_start h) }
+    record { rest = rest_is (sym (ap (λ (k : ℕ). left 4 0 (param_names k 0)) z ∙ left_first 4 (param_names count 0))) rest_start }
 
-module _ {room at₀ count i r : ℕ} {o₀ o : List ℕ} where
-  pub listing_next : {o₁ o₂ : List ℕ} {r₁ r₂ : ℕ} → Listing room o₀ at₀ count o i r → i < count → Wrote room o o₁ r (sep_before i 4) r₁ → Wrote room o₁ o₂ r₁ (generic_param_name 0 i) r₂ → Listing room o₀ at₀ count o₂ (i + 1) r₂
+module _ {o₀ o : Sink} {count i : ℕ} where
+  pub listing_next : {o₁ o₂ : Sink} → Listing o₀ o count i → i < count → Appended o o₁ (sep_before i 4) → Appended o₁ o₂ (generic_param_name 0 i) → Listing o₀ o₂ count (i + 1)
   listing_next l h a b =
       record { rest = rest_then b (rest_then a (rest_is (ap (left 4 i) (names_step i count h) ∙ left_more 4 i (generic_param_name 0 i) (param_names (count - (i + 1)) (i + 1))) l.rest)) }
 
-  pub listing_end : Listing room o₀ at₀ count o i r → count ≤ i → Wrote room o₀ o at₀ (join ", " (param_names count 0)) r
+  pub listing_end : Listing o₀ o count i → count ≤ i → Appended o₀ o (join ", " (param_names count 0))
   listing_end l h = rest_end (rest_is (ap (left 4 i) (names_done i count h) ∙ left_none 4 i) l.rest)
 
-  pub listing_past : Listing room o₀ at₀ count o i r → room < r → Wrote room o₀ o at₀ (join ", " (param_names count 0)) r
+  pub listing_past : Listing o₀ o count i → o.room < o.at → Appended o₀ o (join ", " (param_names count 0))
   listing_past l h = rest_past h l.rest

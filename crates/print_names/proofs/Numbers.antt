@@ -13,14 +13,16 @@ use Rattle.definition.specs.Base.{Name, bytes, same, ok, refused}
 use Rattle.definition.specs.Text.{Text}
 use Rattle.definition.specs.Words as W
 use Rattle.definition.specs.Words.{opened as opened₁}
-use Rattle.text_words.specs.declared.Words.{Words}
+use Rattle.text_words.specs.Table.{Words}
 use Rattle.definition.proofs.SameText.{both}
 use Rattle.operator_names.specs.Fixed.{fixed_names, fixed}
-use Rattle.text_output.specs.Sink.{Wrote, wrote_is}
-use Rattle.text_spelling.specs.Spelled.{Spells, Appended}
+use Rattle.text_output.specs.Appends.{Appended, appended_is}
+use Rattle.text_output.specs.declared.Sink.{Sink}
+use Rattle.print_names.specs.declared.Source.{Source}
+use Rattle.text_spelling.specs.Spelled.{Spells, Spelled}
 use Rattle.tree_records.specs.Holds.{Named, spelled, fixed as is-fixed}
 use Rattle.tree_records.specs.NamesOf.{naming}
-use Rattle.print_names.specs.Naming.{Puts, Alone}
+use Rattle.print_names.specs.Naming.{Puts, Alone, naming_of}
 
 no_ok : {A S : Type 0} {a : A} {s : S} {r : ℕ} → refused r ≡ ok a s → ⊥
 no_ok e = let z : ◌≡◌ {A = ℕ} 0 1 = cc in omega arith
@@ -57,12 +59,12 @@ module _ (text : Text) (w : Words) {k : ℕ} {n : Name} where
           let d : drop k text ≡ [] = drop_past k text (omega arith) in
           absurd (nothing_there s.words s.read s.rest (ap (W.identifier s.words) (sym d) ∙ s.is))
 
-module _ (text : Text) (w : Words) {k room at r : ℕ} {o o' : List ℕ} where
-  pub puts_spelled : k < 65536 → Appended text w k room o o' at r → Puts (Named (naming text w) k) room o o' at r
-  puts_spelled l a = record { next = a.next; len = a.len; each = λ s h. a.is s (named_spells text w l h) }
+module _ (s : Source) {k : ℕ} {o o' : Sink} where
+  pub puts_spelled : k < 65536 → Spelled s.text.now s.words.now k o o' → Puts (Named (naming_of s) k) o o'
+  puts_spelled l a = record { same = a.same; room = a.room; len = a.len; each = λ n h. a.is n (named_spells s.text.now s.words.now l h) }
 
-  pub puts_fixed : 65536 ≤ k → Wrote room o o' at (bytes (fixed (k - 65536))) r → Puts (Named (naming text w) k) room o o' at r
-  puts_fixed l a = record { next = a.next; len = a.len; each = λ s h. wrote_is (named_fixed text w l h) a }
+  pub puts_fixed : 65536 ≤ k → Appended o o' (bytes (fixed (k - 65536))) → Puts (Named (naming_of s) k) o o'
+  puts_fixed l a = record { same = a.same; room = a.room; len = a.wrote.len; each = λ n h. appended_is (named_fixed s.text.now s.words.now l h) a }
 
 pub same_fixed : (text : Text) (w : Words) {k n : ℕ} {name known : Name} → 65536 ≤ k → Alone n known → Named (naming text w) k name → eqb (k - 65536) n ≡ same name known
 same_fixed text w {k} {n} {name} {known} l a h =

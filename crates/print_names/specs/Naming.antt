@@ -1,22 +1,29 @@
 -- What the number of a name represents, and what the functions that append say. Assumes nothing.
-use Rattle.std.specs.Prelude.{◌≡◌, List, ℕ, ◌≤◌, eqb, length}
+use Rattle.std.specs.Prelude.{◌≡◌, ℕ, ◌≤◌, eqb, length}
 use Rattle.definition.specs.Base.{Name, bytes, same}
-use Rattle.definition.specs.Text.{Text}
 use Rattle.text_words.specs.Table.{Fitting}
-use Rattle.text_words.specs.declared.Words.{Words}
 use Rattle.operator_names.specs.Fixed.{fixed}
-use Rattle.text_output.specs.Sink.{Room, Wrote}
+use Rattle.text_output.specs.Appends.{Appended}
+use Rattle.text_output.specs.declared.Sink.{Sink}
+use Rattle.tree_records.specs.Holds.{Names}
+use Rattle.tree_records.specs.NamesOf.{naming}
+use Rattle.print_names.specs.declared.Source.{Source}
+
+-- what the numbers of names represent
+abbrev pub naming_of : Source → Names
+naming_of s = naming s.text.now s.words.now
 
 -- the text is short enough, and the words are in it
-pub record Known (text : Text) (w : Words) : Type 0 where
-  pub short : length text ≤ 65535
-  pub fitting : Fitting text w
+pub record Known (s : Source) : Type 0 where
+  pub short : length s.text.now ≤ 65535
+  pub fitting : Fitting s.text.now s.words.now
 
--- Is holds for the texts that may be meant. Whichever it is, that text is appended to o at `at`
-pub record Puts (Is : Name → Type 0) (room : ℕ) (o o' : List ℕ) (at r : ℕ) : Type 0 where
-  pub next : Room room o' r
-  pub len : length o' ≡ length o
-  pub each : (s : Name) → Is s → Wrote room o o' at s r
+-- Is holds for the texts that may be meant. Whichever it is, that text is appended to the sink
+pub record Puts (Is : Name → Type 0) (o o' : Sink) : Type 0 where
+  pub same : o'.out.ghost_name ≡ o.out.ghost_name
+  pub room : o'.room ≡ o.room
+  pub len : length o'.out.now ≡ length o.out.now
+  pub each : (s : Name) → Is s → Appended o o' s
 
 -- some text is meant
 pub record Some (Is : Name → Type 0) : Type 0 where

@@ -2,212 +2,119 @@
 // by their numbers.
 #![tactic(auto)]
 
-ghost use Rattle.std.specs.Prelude.{◌≡◌, ◌+◌, ◌*◌, ◌≤◌, ◌<◌, ◌∷◌, [], length, drop};
-ghost use Rattle.std.proofs.lemmas.List.Edits.{sets};
+ghost use Rattle.std.specs.Prelude.{◌≡◌, ◌<◌};
 ghost use Rattle.definition.specs.Base.{Name, bytes, same};
 ghost use Rattle.definition.specs.Operators.{suspend_resume_text};
-ghost use Rattle.definition.specs.Print.{join, param_names, effects};
-ghost use Rattle.operator_names.specs.Fixed.{fixed, numbered};
-ghost use Rattle.operator_names.specs.Words.{words, word_count, spelt};
-ghost use Rattle.text_output.specs.Sink.{Room, Wrote};
-ghost use Rattle.text_words.specs.Table.{lent};
+ghost use Rattle.definition.specs.Print.{effects, join, param_names};
+ghost use Rattle.operator_names.specs.Fixed.{fixed};
+ghost use Rattle.text_output.specs.Appends.{Appended};
 ghost use Rattle.tree_records.specs.Holds.{Named};
 ghost use Rattle.print_names.specs.Texts.{text_of, sep_before};
-ghost use Rattle.tree_records.specs.NamesOf.{naming};
-ghost use Rattle.print_names.specs.Naming.{Known, Puts, Some, Alone};
+ghost use Rattle.print_names.specs.Naming.{Alone, Known, Puts, Some, naming_of};
 
-use operator_names::{fixed_name, word};
+use operator_names::{NAMES, Text, fixed_name};
 use print_numerals::{generic_param_name, put_decimal};
-use text_output::{put_byte, store_low, store_word};
+use text_output::Sink;
 use text_spelling::{name_is, put_name};
+use text_words::Words;
 
-// Stores the first len bytes of the words that start at word `first`.
-fn store_words(out: &mut [u8], at: usize, first: usize, len: usize)
-    requires len_in_bounds { at + len ≤ length out.old }
-    requires len_bound { 8 * first + len ≤ 8 * word_count }
-    ensures { out.new ≡ sets out.old at (spelt len (drop first words)) }
-{
-    let mut place = at;
-    let mut i = first;
-    let mut left = len;
-    while 8 <= left {
-        store_word(out, place, word(i));
-        place += 8;
-        i += 1;
-        left -= 8;
-    }
-    store_low(out, place, left, word(i));
+// What is printed: trees as records, the text that has their names, and its words.
+#[derive(Clone, Copy)]
+pub struct Source<'a> {
+    pub text: &'a [u8],
+    pub words: &'a Words,
+    pub ws: &'a [u32],
 }
 
-// Appends the name or text with number n in the row that both share. If it does not end within the
-// slice, none of its words is read.
-fn put_numbered(out: &mut [u8], at: usize, room: usize, n: usize) -> usize
-    requires { Room room out.old at }
-    ensures { Wrote room out.old out.new at (bytes (numbered n)) result }
-{
-    let s = fixed_name(n);
-    if room < at {
-        return at;
-    }
-    if room - at < s.len {
-        return room + 1;
-    }
-    let end = at + s.len;
-    if end <= out.len() {
-        store_words(out, at, s.first, s.len);
-        return end;
-    }
-    end
-}
+// The numbers from this one on represent fixed names; those below are offsets of the text.
+const FIXED: usize = 65536;
 
-// Returns the byte of a text of one byte, and 0 for the others, about which the contract says
-// nothing. The rare `_` and `"` are among these, because without them the match is a short table.
-fn one_byte(n: usize) -> u8
-    ensures { 0 < result → text_of n ≡ result ∷ [] }
+// Appends the text with number n.
+pub fn put_text(out: &mut Sink, n: usize)
+    requires { n < 37 }
+    ensures { Appended out.old out.new (text_of n) }
 {
-    match n {
-        0 => b'.',
-        6 => b'(',
-        7 => b')',
-        8 => b'<',
-        9 => b'>',
-        10 => b'[',
-        11 => b']',
-        12 => b'?',
-        _ => 0,
-    }
-}
-
-// Appends the text with number n. A text of one byte is put directly, without reading the words.
-pub fn put_text(out: &mut [u8], at: usize, room: usize, n: usize) -> usize
-    requires room { Room room out.old at }
-    requires n_bound { n < 37 }
-    ensures { Wrote room out.old out.new at (text_of n) result }
-{
-    let b = one_byte(n);
-    if b != 0 {
-        return put_byte(out, at, room, b);
-    }
-    put_numbered(out, at, room, 134 + n)
+    out.put(fixed_name(NAMES + n));
 }
 
 // Appends the text with number n before each element except the first.
-pub fn put_sep(out: &mut [u8], at: usize, room: usize, i: usize, n: usize) -> usize
-    requires room { Room room out.old at }
-    requires n_bound { n < 37 }
-    ensures { Wrote room out.old out.new at (sep_before i n) result }
+pub fn put_sep(out: &mut Sink, i: usize, n: usize)
+    requires { n < 37 }
+    ensures { Appended out.old out.new (sep_before i n) }
 {
-    if i == 0 {
-        return at;
+    if i != 0 {
+        put_text(out, n);
     }
-    put_text(out, at, room, n)
 }
 
-// Appends the names of `count` generic parameters, with `, ` between them, and stops once past
+// Appends the names of `count` generic parameters, with `, ` between them, and stops once past the
 // room.
-pub fn put_param_names(out: &mut [u8], at: usize, room: usize, count: usize) -> usize
-    requires { Room room out.old at }
-    ensures { Wrote room out.old out.new at (join ", " (param_names count 0)) result }
+pub fn put_param_names(out: &mut Sink, count: usize)
+    ensures { Appended out.old out.new (join ", " (param_names count 0)) }
 {
-    let mut r = at;
-    let mut i = 0;
-    while i < count {
-        if room < r {
-            return r;
+    for i in 0..count {
+        if out.is_past() {
+            return;
         }
-        r = put_sep(out, r, room, i, 4);
-        r = generic_param_name(out, r, room, 0, i);
-        i += 1;
+        put_sep(out, i, Text::Comma as usize);
+        generic_param_name(out, 0, i);
     }
-    r
 }
 
 // Appends what is printed between the parameters of a function and its result, without the arrow.
-pub fn put_effects(
-    out: &mut [u8],
-    at: usize,
-    room: usize,
-    throws: bool,
-    asynchronous: bool,
-) -> usize
-    requires { Room room out.old at }
-    ensures { Wrote room out.old out.new at (effects throws asynchronous) result }
+pub fn put_effects(out: &mut Sink, throws: bool, asynchronous: bool)
+    ensures { Appended out.old out.new (effects throws asynchronous) }
 {
     if asynchronous {
-        let r = put_text(out, at, room, 27);
-        if throws {
-            return put_text(out, r, room, 28);
-        }
-        return r;
+        put_text(out, Text::Async as usize);
     }
     if throws {
-        return put_text(out, at, room, 28);
+        put_text(out, Text::Throws as usize);
     }
-    at
 }
 
 // Appends the words of a suspend or resume function.
-pub fn put_suspend_resume(out: &mut [u8], at: usize, room: usize, index: usize) -> usize
-    requires { Room room out.old at }
-    ensures { Wrote room out.old out.new at (suspend_resume_text index) result }
+pub fn put_suspend_resume(out: &mut Sink, index: usize)
+    ensures { Appended out.old out.new (suspend_resume_text index) }
 {
-    let r = put_text(out, at, room, 6);
-    let s = put_decimal(out, r, room, index);
-    put_text(out, s, room, 34)
+    put_text(out, Text::OpenParenthesis as usize);
+    put_decimal(out, index);
+    put_text(out, Text::SuspendResume as usize);
 }
 
 // Appends the fixed name with number n.
-pub fn put_fixed(out: &mut [u8], at: usize, room: usize, n: usize) -> usize
-    requires { Room room out.old at }
-    ensures { Wrote room out.old out.new at (bytes (fixed n)) result }
+pub fn put_fixed(out: &mut Sink, n: usize)
+    ensures { Appended out.old out.new (bytes (fixed n)) }
 {
-    if n < 134 {
-        return put_numbered(out, at, room, n);
+    if n < NAMES {
+        out.put(fixed_name(n));
     }
-    at
 }
 
 // Appends the name that the number k represents: the identifier at that offset of the text, or,
 // from 65,536 on, a fixed name.
-pub fn put_named(
-    out: &mut [u8],
-    at: usize,
-    room: usize,
-    text: &[u8],
-    starts: &[u16; 26],
-    lengths: &[u16; 26],
-    known: usize,
-    k: usize,
-) -> usize
-    requires room { Room room out.old at }
-    requires known { Known text.now (lent starts.now lengths.now known) }
-    requires some { Some (Named (naming text.now (lent starts.now lengths.now known)) k) }
-    ensures { Puts (Named (naming text.now (lent starts.now lengths.now known)) k) room out.old out.new at result }
+pub fn put_named(out: &mut Sink, from: &Source, k: usize)
+    requires known { Known from.now }
+    requires some { Some (Named (naming_of from.now) k) }
+    ensures { Puts (Named (naming_of from.now) k) out.old out.new }
 {
-    if k < 65536 {
-        return put_name(out, at, room, text, k, starts, lengths, known);
+    if k < FIXED {
+        put_name(out, from.text, k, from.words);
+    } else {
+        put_fixed(out, k - FIXED);
     }
-    put_fixed(out, at, room, k - 65536)
 }
 
 // Whether the name that the number k represents is the fixed name with number n, whose bytes are
 // also given.
-pub fn named_is(
-    text: &[u8],
-    starts: &[u16; 26],
-    lengths: &[u16; 26],
-    known: usize,
-    k: usize,
-    n: usize,
-    fixed: &[u8],
-) -> bool
-    requires known { Known text.now (lent starts.now lengths.now known) }
-    requires some { Some (Named (naming text.now (lent starts.now lengths.now known)) k) }
+pub fn named_is(from: &Source, k: usize, n: usize, fixed: &[u8]) -> bool
+    requires known { Known from.now }
+    requires some { Some (Named (naming_of from.now) k) }
     requires alone { Alone n fixed.now }
-    ensures { (name : Name) → Named (naming text.now (lent starts.now lengths.now known)) k name → result ≡ same name fixed.now }
+    ensures { (name : Name) → Named (naming_of from.now) k name → result ≡ same name fixed.now }
 {
-    if k < 65536 {
-        return name_is(text, k, starts, lengths, known, fixed);
+    if k < FIXED {
+        return name_is(from.text, k, from.words, fixed);
     }
-    k - 65536 == n
+    k - FIXED == n
 }

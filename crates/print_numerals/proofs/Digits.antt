@@ -1,16 +1,17 @@
 -- The digits of a number and the letters of a generic parameter, one at a time. Assumes nothing.
 use mathlib.Core.Path.{◌≡◌, refl, sym, ap, ◌∙◌}
 use mathlib.Core.Bool.{Bool, true, false}
-use mathlib.Core.List.{List, [], ◌∷◌, ◌++◌, append-nil}
+use mathlib.Core.List.{[], ◌∷◌, ◌++◌, append-nil}
 use Prim.Native.Nat.{ℕ, zero, suc, ◌+◌, ◌-◌, ◌/◌, ◌%◌, ◌≤◌, ◌<◌}
 use native.Mathlib.Omega.{arith}
 use native.Mathlib.Numerals.{add-one, sub-one}
-use borrow.Author.Tests.{lt-ltb, le-ltb, ltb-false, eq-eqb, ne_eqb}
+use borrow.Author.Tests.{lt-ltb, le-ltb, eq-eqb, ne_eqb}
 use lib.Dec.{ltb}
 use Rattle.definition.specs.Base.{Name, decimal_before, decimal}
 use Rattle.definition.specs.Print.{param_letters, generic_param_name}
 use Rattle.definition.proofs.Bounds.{digits_bound}
-use Rattle.text_output.specs.Sink.{Room, Wrote, wrote_is, Rest, rest_start, rest_then, rest_is}
+use Rattle.text_output.specs.Appends.{Appended, appended_is, Rest, rest_start, rest_then, rest_is}
+use Rattle.text_output.specs.declared.Sink.{Sink}
 
 -- DIGITS
 -- a number below 10 is a digit
@@ -64,19 +65,19 @@ unfolding generic_param_name
 at_depth d i e = let h : 0 < d = omega arith in rw (add-one i) (sym (simp (lt-ltb 0 d h)))
 
 -- The loop over the letters: n is what is left of the index
-pub record Lettering (room : ℕ) (o₀ : List ℕ) (at₀ index : ℕ) (o : List ℕ) (n r : ℕ) : Type 0 where
+pub record Lettering (s₀ : Sink) (index : ℕ) (s : Sink) (n : ℕ) : Type 0 where
   pub bound : ℕ
   pub above : n < bound
-  pub rest : Rest room o₀ at₀ (param_letters (index + 1) index) o r (param_letters bound n)
+  pub rest : Rest s₀ (param_letters (index + 1) index) s (param_letters bound n)
 
-pub lettering_first : {room at index : ℕ} {o : List ℕ} → Room room o at → Lettering room o at index o index at
-lettering_first {index = index} h = record { bound = index + 1; above = omega arith; rest = rest_start h }
+pub lettering_first : (index : ℕ) (s : Sink) → Lettering s index s index
+lettering_first index s = record { bound = index + 1; above = omega arith; rest = rest_start }
 
-module _ {room at₀ index n r r' : ℕ} {o₀ o o' : List ℕ} where
-  pub lettering_next : Lettering room o₀ at₀ index o n r → Wrote room o o' r ((65 + n % 26) ∷ []) r' → (n / 26 ≡ 0 → ⊥) → Lettering room o₀ at₀ index o' (n / 26) r'
+module _ {s₀ s s' : Sink} {index n : ℕ} where
+  pub lettering_next : Lettering s₀ index s n → Appended s s' ((65 + n % 26) ∷ []) → (n / 26 ≡ 0 → ⊥) → Lettering s₀ index s' (n / 26)
   lettering_next l w e =
       let a = l.above in
       record { bound = l.bound - 1; above = omega arith; rest = rest_then w (rest_is (sym (more_letters l.bound n a e)) l.rest) }
 
-  pub lettering_last : Lettering room o₀ at₀ index o n r → Wrote room o o' r ((65 + n % 26) ∷ []) r' → n / 26 ≡ 0 → Wrote room o₀ o' at₀ (param_letters (index + 1) index) r'
-  lettering_last l w e = l.rest.ends _ _ (wrote_is (last_letter l.bound n l.above e) w)
+  pub lettering_last : Lettering s₀ index s n → Appended s s' ((65 + n % 26) ∷ []) → n / 26 ≡ 0 → Appended s₀ s' (param_letters (index + 1) index)
+  lettering_last l w e = l.rest.ends s' (appended_is (last_letter l.bound n l.above e) w)

@@ -10,19 +10,19 @@ use borrow.Author.Tests.{ne_eqb, ltb-true, ltb-false}
 use lib.Dec.{T, eqb, ltb}
 use lib.ListN.{length, get_or}
 use Rattle.definition.specs.Base.{Name, bytes}
-use Rattle.definition.specs.Text.{Text}
 use Rattle.definition.specs.Kind as K
 use Rattle.definition.specs.Node as D
 use Rattle.definition.specs.Node.{Node, Nodes, nil, cons, Tuple, FunctionType, GenericType, kind, many, count, view}
 use Rattle.definition.specs.Print.{join, labelled, label_at, params_from, in_parens, effects, print_tuple, print_function_type, print_generic_type, printing, printed_elements, print, print_params}
 use Rattle.definition.proofs.PrintEquations.{params_of_other, behind_of_other, signed_of_other}
-use Rattle.text_words.specs.declared.Words.{Words}
-use Rattle.text_output.specs.Sink.{Room, Wrote, wrote_is, wrote_then, Rest, rest_start, rest_then, rest_is, rest_end, rest_past}
+use Rattle.text_output.specs.Appends.{Appended, appended_is, appended_then, Rest, rest_start, rest_then, rest_is, rest_end, rest_past}
+use Rattle.text_output.specs.declared.Sink.{Sink}
 use Rattle.tree_records.specs.Lies.{at, Child, flag, LabelIs, Cells, Lies, absent}
 use Rattle.tree_records.specs.Holds.{Names, Named}
 use Rattle.print_names.specs.Texts.{text_of, sep_before}
 use Rattle.print_names.specs.Texts as X
 use Rattle.print_names.specs.Naming.{Puts, Some}
+use Rattle.print_names.specs.declared.Source.{Source}
 use Rattle.print_names.proofs.Lists.{left, left_more, left_none}
 use Rattle.print_labels.specs.declared.Labels.{Labels}
 use Rattle.print_tree.specs.Prints.{Placed}
@@ -35,12 +35,12 @@ use Rattle.print_tree.proofs.LeafLaws.{list_of}
 use Rattle.print_forms.proofs.FormLaws.{child_below, child_holds, form_low}
 use Rattle.print_forms.proofs.RowLaws.{rowed}
 
-module _ {room at₀ r : ℕ} {o o' : List ℕ} where
-  pub puts_by : {A B : Name → Type 0} → ((s : Name) → B s → A s) → Puts A room o o' at₀ r → Puts B room o o' at₀ r
-  puts_by f h = record { next = h.next; len = h.len; each = λ s b. h.each s (f s b) }
+module _ {o o' : Sink} where
+  pub puts_by : {A B : Name → Type 0} → ((s : Name) → B s → A s) → Puts A o o' → Puts B o o'
+  puts_by f h = record { same = h.same; room = h.room; len = h.len; each = λ s b. h.each s (f s b) }
 
-  pub puts_text : {B : Name → Type 0} {t : Name} → ((s : Name) → B s → s ≡ t) → Wrote room o o' at₀ t r → Puts B room o o' at₀ r
-  puts_text f h = record { next = h.next; len = h.len; each = λ s b. wrote_is (sym (f s b)) h }
+  pub puts_text : {B : Name → Type 0} {t : Name} → ((s : Name) → B s → s ≡ t) → Appended o o' t → Puts B o o'
+  puts_text f h = record { same = h.same; room = h.room; len = h.wrote.len; each = λ s b. appended_is (sym (f s b)) h }
 
 pub prints_at : {nm : Names} {ws : List ℕ} {p q : ℕ} {s : Name} → q ≡ p → Prints nm ws p s → Prints nm ws q s
 prints_at {nm} {ws} {p} {q} {s} e h = subst (λ (j : ℕ). Prints nm ws j s) (sym e) h
@@ -67,23 +67,25 @@ no_more (one l m h) e = absurd (omega arith)
 no_more (more l h k) e = absurd (omega arith)
 
 -- the loop over a row: row is what is left of it
-pub record Rowing (nm : Names) (ws : List ℕ) (p row₀ room : ℕ) (o₀ : List ℕ) (at₀ : ℕ) (o : List ℕ) (row r : ℕ) : Type 0 where
-  pub next : Room room o r
-  pub len : length o ≡ length o₀
+pub record Rowing (nm : Names) (ws : List ℕ) (p row₀ : ℕ) (o₀ o : Sink) (row : ℕ) : Type 0 where
+  pub same : o.out.ghost_name ≡ o₀.out.ghost_name
+  pub room : o.room ≡ o₀.room
+  pub len : length o.out.now ≡ length o₀.out.now
   pub some : Some (Pieces nm ws p row)
-  pub each : (s : Name) → Pieces nm ws p row₀ s → (t : Name) × Pieces nm ws p row t × Rest room o₀ at₀ s o r t
+  pub each : (s : Name) → Pieces nm ws p row₀ s → (t : Name) × Pieces nm ws p row t × Rest o₀ s o t
 
-module _ {nm : Names} {ws : List ℕ} {p row₀ room at₀ : ℕ} {o₀ : List ℕ} where
-  pub rowing_first : Room room o₀ at₀ → Rowed nm ws p row₀ → Some (Prints nm ws p) → Rowing nm ws p row₀ room o₀ at₀ o₀ row₀ at₀
-  rowing_first h f s = record { next = h; len = refl; some = record { text = s.text; is = f.each s.text s.is }; each = λ s h₁. (s, h₁, rest_start h) }
+module _ {nm : Names} {ws : List ℕ} {p row₀ : ℕ} where
+  pub rowing_first : (o₀ : Sink) → Rowed nm ws p row₀ → Some (Prints nm ws p) → Rowing nm ws p row₀ o₀ o₀ row₀
+  rowing_first o₀ f s = record { same = refl; room = refl; len = refl; some = record { text = s.text; is = f.each s.text s.is }; each = λ s h₁. (s, h₁, rest_start) }
 
-  module _ {o : List ℕ} {row r : ℕ} (v : Rowing nm ws p row₀ room o₀ at₀ o row r) where
+  module _ {o₀ o : Sink} {row : ℕ} (v : Rowing nm ws p row₀ o₀ o row) where
     pub rowing_piece : (row ≡ 0 → ⊥) → Some (Piece nm ws p (row % 256))
     rowing_piece e = let n = next_of v.some.is e in record { text = n.first; is = n.piece }
 
-    pub rowing_next : {o' : List ℕ} {r' : ℕ} → (row ≡ 0 → ⊥) → Puts (Piece nm ws p (row % 256)) room o o' r r' → Rowing nm ws p row₀ room o₀ at₀ o' (row / 256) r'
+    pub rowing_next : {o' : Sink} → (row ≡ 0 → ⊥) → Puts (Piece nm ws p (row % 256)) o o' → Rowing nm ws p row₀ o₀ o' (row / 256)
     rowing_next e h = record {
-      next = h.next;
+      same = h.same ∙ v.same;
+      room = h.room ∙ v.room;
       len = h.len ∙ v.len;
       some = let n = next_of v.some.is e in record { text = n.rest; is = n.behind };
       each = λ s k.
@@ -92,11 +94,11 @@ module _ {nm : Names} {ws : List ℕ} {p row₀ room at₀ : ℕ} {o₀ : List �
           (n.rest, n.behind, rest_then (h.each n.first n.piece) (rest_is n.is w));
     }
 
-    pub rowing_past : Rowed nm ws p row₀ → room < r → Puts (Prints nm ws p) room o₀ o at₀ r
-    rowing_past f l = record { next = v.next; len = v.len; each = λ s k. rest_past l (v.each s (f.each s k)).2 }
+    pub rowing_past : Rowed nm ws p row₀ → o.room < o.at → Puts (Prints nm ws p) o₀ o
+    rowing_past f l = record { same = v.same; room = v.room; len = v.len; each = λ s k. rest_past l (v.each s (f.each s k)).2 }
 
-    pub rowing_end : Rowed nm ws p row₀ → row ≡ 0 → Puts (Prints nm ws p) room o₀ o at₀ r
-    rowing_end f e = record { next = v.next; len = v.len; each = λ s k. let (t, u, w) = v.each s (f.each s k) in rest_end (rest_is (no_more u e) w) }
+    pub rowing_end : Rowed nm ws p row₀ → row ≡ 0 → Puts (Prints nm ws p) o₀ o
+    rowing_end f e = record { same = v.same; room = v.room; len = v.len; each = λ s k. let (t, u, w) = v.each s (f.each s k) in rest_end (rest_is (no_more u e) w) }
 
 -- a piece is a plain piece of the record that it belongs to
 module _ {nm : Names} {ws : List ℕ} {p code q : ℕ} (d : Placed ws p code q) (l : code < 256) {s : Name} (h : Piece nm ws p code s) where
@@ -181,20 +183,21 @@ no_cells nil sep i shown ls e = left_none sep i
 no_cells (cons x y ns) sep i shown ls e = absurd (omega arith)
 
 -- the loop over the cells of a list
-pub record Celling (nm : Names) (ws : List ℕ) (p k₀ count sep : ℕ) (shown : Bool) (l : Labels) (room : ℕ) (o₀ : List ℕ) (at₀ : ℕ) (o : List ℕ) (host k : ℕ) (labels : Labels) (r i : ℕ) : Type 0 where
-  pub next : Room room o r
-  pub len : length o ≡ length o₀
+pub record Celling (nm : Names) (ws : List ℕ) (p k₀ count sep : ℕ) (shown : Bool) (l : Labels) (o₀ o : Sink) (host k : ℕ) (labels : Labels) (i : ℕ) : Type 0 where
+  pub same : o.out.ghost_name ≡ o₀.out.ghost_name
+  pub room : o.room ≡ o₀.room
+  pub len : length o.out.now ≡ length o₀.out.now
   pub inside : host ≤ p
   pub field : k < 8
   pub reach : Reach ws labels
   pub some : Some (Listed nm ws host k count i sep shown labels)
-  pub each : (s : Name) → Listed nm ws p k₀ count 0 sep shown l s → (t : Name) × Listed nm ws host k count i sep shown labels t × Rest room o₀ at₀ s o r t
+  pub each : (s : Name) → Listed nm ws p k₀ count 0 sep shown l s → (t : Name) × Listed nm ws host k count i sep shown labels t × Rest o₀ s o t
 
-module _ {nm : Names} {ws : List ℕ} {p k₀ count sep : ℕ} {shown : Bool} {l : Labels} {room at₀ : ℕ} {o₀ : List ℕ} where
-  pub celling_first : Room room o₀ at₀ → k₀ < 8 → Reach ws l → Some (Listed nm ws p k₀ count 0 sep shown l) → Celling nm ws p k₀ count sep shown l room o₀ at₀ o₀ p k₀ l at₀ 0
-  celling_first h a g s = record { next = h; len = refl; inside = omega arith; field = a; reach = g; some = s; each = λ t k. (t, k, rest_start h) }
+module _ {nm : Names} {ws : List ℕ} {p k₀ count sep : ℕ} {shown : Bool} {l : Labels} where
+  pub celling_first : (o₀ : Sink) → k₀ < 8 → Reach ws l → Some (Listed nm ws p k₀ count 0 sep shown l) → Celling nm ws p k₀ count sep shown l o₀ o₀ p k₀ l 0
+  celling_first o₀ a g s = record { same = refl; room = refl; len = refl; inside = omega arith; field = a; reach = g; some = s; each = λ t k. (t, k, rest_start) }
 
-  module _ {o : List ℕ} {host k r i : ℕ} {labels : Labels} (v : Celling nm ws p k₀ count sep shown l room o₀ at₀ o host k labels r i) where
+  module _ {o₀ o : Sink} {host k i : ℕ} {labels : Labels} (v : Celling nm ws p k₀ count sep shown l o₀ o host k labels i) where
     pub cell_below : i < count → at ws host k < host
     cell_below h = (opened v.some.is h).below
 
@@ -204,11 +207,12 @@ module _ {nm : Names} {ws : List ℕ} {p k₀ count sep : ℕ} {shown : Bool} {l
     pub labels_some : SomeLabels ws labels
     labels_some = record { reach = v.reach; names = nm; labels = v.some.is.labels; are = v.some.is.are }
 
-    pub celling_next : {cell r' : ℕ} {o' : List ℕ} {next : Labels} → i < count → cell ≡ at ws host k → Puts (Celled nm ws cell i sep shown labels) room o o' r r' → NextLabels ws labels next → Celling nm ws p k₀ count sep shown l room o₀ at₀ o' cell 5 next r' (i + 1)
+    pub celling_next : {cell : ℕ} {o' : Sink} {next : Labels} → i < count → cell ≡ at ws host k → Puts (Celled nm ws cell i sep shown labels) o o' → NextLabels ws labels next → Celling nm ws p k₀ count sep shown l o₀ o' cell 5 next (i + 1)
     celling_next {cell} {next = next} h e w g =
         let b = cell_below h in
         record {
-          next = w.next;
+          same = w.same ∙ v.same;
+          room = w.room ∙ v.room;
           len = w.len ∙ v.len;
           inside = omega (arith, b, e, v.inside);
           field = omega arith;
@@ -223,12 +227,13 @@ module _ {nm : Names} {ws : List ℕ} {p k₀ count sep : ℕ} {shown : Bool} {l
               );
         }
 
-    pub celling_past : room < r → Puts (Listed nm ws p k₀ count 0 sep shown l) room o₀ o at₀ r
-    celling_past h = record { next = v.next; len = v.len; each = λ s z. rest_past h (v.each s z).2 }
+    pub celling_past : o.room < o.at → Puts (Listed nm ws p k₀ count 0 sep shown l) o₀ o
+    celling_past h = record { same = v.same; room = v.room; len = v.len; each = λ s z. rest_past h (v.each s z).2 }
 
-    pub celling_end : count ≤ i → Puts (Listed nm ws p k₀ count 0 sep shown l) room o₀ o at₀ r
+    pub celling_end : count ≤ i → Puts (Listed nm ws p k₀ count 0 sep shown l) o₀ o
     celling_end h = record {
-      next = v.next;
+      same = v.same;
+      room = v.room;
       len = v.len;
       each = λ s z.
           let (t, y, x) = v.each s z in
@@ -251,14 +256,15 @@ module _ {nm : Names} {ws : List ℕ} {p i sep : ℕ} {shown : Bool} {l : Labels
   pub celled_prints : {s : Name} {q : ℕ} → q ≡ at ws p 4 → (h : Celled nm ws p i sep shown l s) → Prints nm ws q (print h.node)
   celled_prints e h = prints_at e (record { tree = h.node; lies = child_holds ws p 4 (λ q. Lies (Named nm) h.node ws q) h.kid; is = refl })
 
-  pub celled_puts : {k q room at₀ a b r : ℕ} {o o₁ o₂ o₃ : List ℕ} → k ≡ own_label ws p shown → q ≡ at ws p 4 → Wrote room o o₁ at₀ (sep_before i sep) a → Puts (Labelling nm ws k l) room o₁ o₂ a b → Puts (Prints nm ws q) room o₂ o₃ b r → Puts (Celled nm ws p i sep shown l) room o o₃ at₀ r
+  pub celled_puts : {k q : ℕ} {o o₁ o₂ o₃ : Sink} → k ≡ own_label ws p shown → q ≡ at ws p 4 → Appended o o₁ (sep_before i sep) → Puts (Labelling nm ws k l) o₁ o₂ → Puts (Prints nm ws q) o₂ o₃ → Puts (Celled nm ws p i sep shown l) o o₃
   celled_puts e f x y z = record {
-    next = z.next;
-    len = z.len ∙ y.len ∙ x.len;
+    same = z.same ∙ y.same ∙ x.same;
+    room = z.room ∙ y.room ∙ x.room;
+    len = z.len ∙ y.len ∙ x.wrote.len;
     each = λ s h.
         let c = label_now h.labels (own shown h.label) in
-        wrote_is (append_assoc (sep_before i sep) (prefix c) (print h.node) ∙ ap (λ (t : Name). sep_before i sep ++ t) (prefixed c (print h.node)) ∙ sym h.is)
-        (wrote_then (wrote_then x (y.each _ (celled_label e h))) (z.each _ (celled_prints f h)));
+        appended_is (append_assoc (sep_before i sep) (prefix c) (print h.node) ∙ ap (λ (t : Name). sep_before i sep ++ t) (prefixed c (print h.node)) ∙ sym h.is)
+        (appended_then (appended_then x (y.each _ (celled_label e h))) (z.each _ (celled_prints f h)));
   }
 
 -- PARAMETERS
@@ -295,13 +301,14 @@ module _ (nm : Names) (ws : List ℕ) (p : ℕ) (l : Labels) {k : ℕ} (ek : k �
     pub tuple_some : k ≡ 9 → Some (Printing params_way nm ws p l) → Some (Listed nm ws p f.field f.count 0 f.sep f.shown l)
     tuple_some e s = let t = tuple_at e s.is in record { text = t.inner; is = as_form t.elements_lie }
 
-    pub tuple_puts : {room at₀ a b r : ℕ} {o o₁ o₂ o₃ : List ℕ} → k ≡ 9 → Wrote room o o₁ at₀ (text_of 6) a → Puts (Listed nm ws p f.field f.count 0 f.sep f.shown l) room o₁ o₂ a b → Wrote room o₂ o₃ b (text_of 7) r → Puts (Printing params_way nm ws p l) room o o₃ at₀ r
+    pub tuple_puts : {o o₁ o₂ o₃ : Sink} → k ≡ 9 → Appended o o₁ (text_of 6) → Puts (Listed nm ws p f.field f.count 0 f.sep f.shown l) o₁ o₂ → Appended o₂ o₃ (text_of 7) → Puts (Printing params_way nm ws p l) o o₃
     tuple_puts e x y z = record {
-      next = z.next;
-      len = z.len ∙ y.len ∙ x.len;
+      same = z.same ∙ y.same ∙ x.same;
+      room = z.room ∙ y.room ∙ x.room;
+      len = z.wrote.len ∙ y.len ∙ x.wrote.len;
       each = λ s h.
           let t = tuple_at e h in
-          wrote_is (append_assoc (text_of 6) t.inner (text_of 7) ∙ sym t.is) (wrote_then (wrote_then x (y.each t.inner (as_form t.elements_lie))) z);
+          appended_is (append_assoc (text_of 6) t.inner (text_of 7) ∙ sym t.is) (appended_then (appended_then x (y.each t.inner (as_form t.elements_lie))) z);
     }
 
   not_listed : (n : ℕ) → (n ≡ 9 → ⊥) → (n ≡ 30 → ⊥) → T (not (eqb n K.tuple || eqb n K.empty_list))
@@ -320,20 +327,21 @@ module _ (nm : Names) (ws : List ℕ) (p : ℕ) (l : Labels) {k : ℕ} (ek : k �
   label_none (some (none ∷ ls)) = refl
   label_none (some (some n ∷ ls)) = refl
 
-  pub other_puts : {room at₀ a b c r : ℕ} {o o₁ o₂ o₃ o₄ : List ℕ} → (k ≡ 30 → ⊥) → (k ≡ 9 → ⊥) → Wrote room o o₁ at₀ (text_of 6) a → Puts (Labelling nm ws absent l) room o₁ o₂ a b → Puts (Prints nm ws p) room o₂ o₃ b c → Wrote room o₃ o₄ c (text_of 7) r → Puts (Printing params_way nm ws p l) room o o₄ at₀ r
+  pub other_puts : {o o₁ o₂ o₃ o₄ : Sink} → (k ≡ 30 → ⊥) → (k ≡ 9 → ⊥) → Appended o o₁ (text_of 6) → Puts (Labelling nm ws absent l) o₁ o₂ → Puts (Prints nm ws p) o₂ o₃ → Appended o₃ o₄ (text_of 7) → Puts (Printing params_way nm ws p l) o o₄
   unfolding in_parens params_from join text_of X.texts bytes print_params
   other_puts e f w x y z = record {
-    next = z.next;
-    len = z.len ∙ y.len ∙ x.len ∙ w.len;
+    same = z.same ∙ y.same ∙ x.same ∙ w.same;
+    room = z.room ∙ y.room ∙ x.room ∙ w.room;
+    len = z.wrote.len ∙ y.len ∙ x.len ∙ w.wrote.len;
     each = λ s h.
         let g : T (not (eqb (kind h.tree) K.tuple || eqb (kind h.tree) K.empty_list)) = not_listed (kind h.tree) (λ (j : kind h.tree ≡ 9). f (ek ∙ h.lies.kind_is ∙ j)) (λ (j : kind h.tree ≡ 30). e (ek ∙ h.lies.kind_is ∙ j)) in
         let d : label_now (listed h.labels) none ≡ label_at h.labels 0 none = sym (label_none h.labels) in
-        wrote_is
+        appended_is
         (ap (λ (t : Name). (text_of 6 ++ t) ++ text_of 7) (prefixed (label_now (listed h.labels) none) (print h.tree))
         ∙ append_assoc (text_of 6) (labelled (label_now (listed h.labels) none) (print h.tree)) (text_of 7)
         ∙ ap (λ (c : Option Name). text_of 6 ++ (labelled c (print h.tree) ++ text_of 7)) d
         ∙ sym (h.is ∙ params_of_other h.tree g h.labels))
-        (wrote_then (wrote_is (append_assoc (text_of 6) (prefix (label_now (listed h.labels) none)) (print h.tree)) (wrote_then (wrote_then w (x.each _ (other_label h))) (y.each _ (other_prints h)))) z);
+        (appended_then (appended_is (append_assoc (text_of 6) (prefix (label_now (listed h.labels) none)) (print h.tree)) (appended_then (appended_then w (x.each _ (other_label h))) (y.each _ (other_prints h)))) z);
   }
 
   -- AFTER A NAME
@@ -377,13 +385,14 @@ module _ (nm : Names) (ws : List ℕ) (p : ℕ) (l : Labels) {k : ℕ} (ek : k �
     pub function_result : k ≡ 10 → Some (Printing behind_way nm ws p l) → (u < p) × Some (Prints nm ws u)
     function_result e s = let t = function_at e s.is in (subst (λ (j : ℕ). j < p) (sym eu) t.result_below, record { text = t.result; is = prints_at eu t.result_lies })
 
-    pub function_puts : {room at₀ a b c r : ℕ} {o o₁ o₂ o₃ o₄ : List ℕ} → k ≡ 10 → Puts (Printing params_way nm ws q l) room o o₁ at₀ a → Wrote room o₁ o₂ a (leaf_text ws p 24) b → Wrote room o₂ o₃ b (text_of 26) c → Puts (Prints nm ws u) room o₃ o₄ c r → Puts (Printing behind_way nm ws p l) room o o₄ at₀ r
+    pub function_puts : {o o₁ o₂ o₃ o₄ : Sink} → k ≡ 10 → Puts (Printing params_way nm ws q l) o o₁ → Appended o₁ o₂ (leaf_text ws p 24) → Appended o₂ o₃ (text_of 26) → Puts (Prints nm ws u) o₃ o₄ → Puts (Printing behind_way nm ws p l) o o₄
     function_puts e w x y z = record {
-      next = z.next;
-      len = z.len ∙ y.len ∙ x.len ∙ w.len;
+      same = z.same ∙ y.same ∙ x.same ∙ w.same;
+      room = z.room ∙ y.room ∙ x.room ∙ w.room;
+      len = z.len ∙ y.wrote.len ∙ x.wrote.len ∙ w.len;
       each = λ s h.
           let t = function_at e h in
-          wrote_is (sym t.is) (wrote_then (w.each _ (printing_at t.params_lie)) (wrote_then x (wrote_then y (z.each _ (prints_at eu t.result_lies)))));
+          appended_is (sym t.is) (appended_then (w.each _ (printing_at t.params_lie)) (appended_then x (appended_then y (z.each _ (prints_at eu t.result_lies)))));
     }
 
     -- a signature first
@@ -420,13 +429,14 @@ module _ (nm : Names) (ws : List ℕ) (p : ℕ) (l : Labels) {k : ℕ} (ek : k �
     pub generic_inner : k ≡ 11 → Some (Printing signed_way nm ws p l) → (u < p) × Some (Printing behind_way nm ws u l)
     generic_inner e s = let t = generic_at e s.is in (subst (λ (j : ℕ). j < p) (sym eu) t.inner_below, record { text = t.inner; is = inner_at t.inner_lies })
 
-    pub generic_puts : {room at₀ a r : ℕ} {o o₁ o₂ : List ℕ} → k ≡ 11 → Puts (Prints nm ws q) room o o₁ at₀ a → Puts (Printing behind_way nm ws u l) room o₁ o₂ a r → Puts (Printing signed_way nm ws p l) room o o₂ at₀ r
+    pub generic_puts : {o o₁ o₂ : Sink} → k ≡ 11 → Puts (Prints nm ws q) o o₁ → Puts (Printing behind_way nm ws u l) o₁ o₂ → Puts (Printing signed_way nm ws p l) o o₂
     generic_puts e w x = record {
-      next = x.next;
+      same = x.same ∙ w.same;
+      room = x.room ∙ w.room;
       len = x.len ∙ w.len;
       each = λ s h.
           let t = generic_at e h in
-          wrote_is (sym t.is) (wrote_then (w.each _ (prints_at eq t.signature_lies)) (x.each _ (inner_at t.inner_lies)));
+          appended_is (sym t.is) (appended_then (w.each _ (prints_at eq t.signature_lies)) (x.each _ (inner_at t.inner_lies)));
     }
 
   not_kind : (j n : ℕ) → (n ≡ j → ⊥) → T (not (eqb n j))
@@ -435,26 +445,27 @@ module _ (nm : Names) (ws : List ℕ) (p : ℕ) (l : Labels) {k : ℕ} (ek : k �
   pub unsigned : {s : Name} → (k ≡ 11 → ⊥) → Printing signed_way nm ws p l s → Printing behind_way nm ws p l s
   unsigned e h = record { tree = h.tree; lies = h.lies; labels = h.labels; are = h.are; is = h.is ∙ signed_of_other h.tree (not_kind 11 (kind h.tree) (λ (j : kind h.tree ≡ 11). e (ek ∙ h.lies.kind_is ∙ j))) h.labels }
 
-  pub typed_puts : {room at₀ a r : ℕ} {o o₁ o₂ : List ℕ} → (k ≡ 10 → ⊥) → Wrote room o o₁ at₀ (text_of 2) a → Puts (Prints nm ws p) room o₁ o₂ a r → Puts (Printing behind_way nm ws p l) room o o₂ at₀ r
+  pub typed_puts : {o o₁ o₂ : Sink} → (k ≡ 10 → ⊥) → Appended o o₁ (text_of 2) → Puts (Prints nm ws p) o₁ o₂ → Puts (Printing behind_way nm ws p l) o o₂
   unfolding text_of X.texts bytes
   typed_puts e w x = record {
-    next = x.next;
-    len = x.len ∙ w.len;
+    same = x.same ∙ w.same;
+    room = x.room ∙ w.room;
+    len = x.len ∙ w.wrote.len;
     each = λ s h.
-        wrote_is (sym (h.is ∙ behind_of_other h.tree (not_kind 10 (kind h.tree) (λ (j : kind h.tree ≡ 10). e (ek ∙ h.lies.kind_is ∙ j))) h.labels))
-        (wrote_then w (x.each _ (other_prints h)));
+        appended_is (sym (h.is ∙ behind_of_other h.tree (not_kind 10 (kind h.tree) (λ (j : kind h.tree ≡ 10). e (ek ∙ h.lies.kind_is ∙ j))) h.labels))
+        (appended_then w (x.each _ (other_prints h)));
   }
 
 -- PIECES
-pub world_below : {text : Text} {w : Words} {ws : List ℕ} {p q : ℕ} → World text w ws p → q < p → World text w ws q
+pub world_below : {s : Source} {p q : ℕ} → World s p → q < p → World s q
 world_below h l = record { known = h.known; long = omega (arith, h.long) }
 
 -- the child that a piece with a code of 16 to 23 is
 pub child_at : {nm : Names} {ws : List ℕ} {p code q : ℕ} → 16 ≤ code → code < 24 → q ≡ at ws p (code - 16) → Some (Plain nm ws p code) → (q < p) × Some (Prints nm ws q)
 child_at l m e s = let v = s.is.child l m in (omega (arith, v.0), record { text = s.text; is = prints_at e v.1 })
 
-pub labels_reach : {text : Text} {w : Words} {ws : List ℕ} {p n : ℕ} {l : Labels} → World text w ws p → l ≡ record { host = p; field = 6; left = n } → Reach ws l
-labels_reach {ws = ws} h e = subst (Reach ws) (sym e) (record { field = omega arith; long = h.long })
+pub labels_reach : {s : Source} {p n : ℕ} {l : Labels} → World s p → l ≡ record { host = p; field = 6; left = n } → Reach s.ws.now l
+labels_reach {s = s} h e = subst (Reach s.ws.now) (sym e) (record { field = omega arith; long = h.long })
 
 pub printing_to : {way : Way} {nm : Names} {ws : List ℕ} {p q : ℕ} {l m : Labels} {s : Name} → q ≡ p → m ≡ l → Printing way nm ws p l s → Printing way nm ws q m s
 printing_to {way} {nm} {ws} {p} {q} {l} {m} {s} e f h = subst (λ (j : ℕ). Printing way nm ws j m s) (sym e) (subst (λ (x : Labels). Printing way nm ws p x s) (sym f) h)

@@ -8,13 +8,15 @@ use lib.ListN.{length, take, drop}
 use lib.Seq.{take_at}
 use Rattle.definition.specs.Base.{Name, bytes}
 use Rattle.definition.specs.Text.{Text, suffix_text}
-use Rattle.text_output.specs.Sink.{part, Wrote, wrote_is, wrote_then}
+use Rattle.text_output.specs.Appends.{Appended, appended_is, appended_then}
+use Rattle.text_output.specs.Sink.{part, Wrote, wrote_is}
+use Rattle.text_output.specs.declared.Sink.{Sink}
 use Rattle.tree_records.specs.Holds.{Names}
 use Rattle.print_names.specs.Texts.{text_of}
 use Rattle.print_names.specs.Texts as X
 use Rattle.print_names.specs.Naming.{Puts}
 use Rattle.print_labels.specs.RowTexts.{Prints}
-use Rattle.print_tree.specs.Prints.{Suffixed, Rendered}
+use Rattle.print_tree.specs.Prints.{Shows, Suffixed, Rendered}
 
 no_suffix : (t : Text) → length t ≡ 0 → suffix_text t ≡ []
 unfolding suffix_text
@@ -27,20 +29,22 @@ some_suffix [] e = absurd (e refl)
 some_suffix (b ∷ t) e = refl
 
 module _ {nm : Names} {ws : List ℕ} {p : ℕ} {suffix : Text} where
-  pub whole_alone : {room at₀ r : ℕ} {o o' : List ℕ} → length suffix ≡ 0 → Puts (Prints nm ws p) room o o' at₀ r → Puts (Suffixed nm ws p suffix) room o o' at₀ r
+  pub whole_alone : {o o' : Sink} → length suffix ≡ 0 → Puts (Prints nm ws p) o o' → Puts (Suffixed nm ws p suffix) o o'
   whole_alone e h = record {
-    next = h.next;
+    same = h.same;
+    room = h.room;
     len = h.len;
     each = λ s k.
-        wrote_is (sym (k.is ∙ ap (λ (x : Name). k.text ++ x) (no_suffix suffix e) ∙ append-nil k.text)) (h.each k.text k.prints);
+        appended_is (sym (k.is ∙ ap (λ (x : Name). k.text ++ x) (no_suffix suffix e) ∙ append-nil k.text)) (h.each k.text k.prints);
   }
 
-  pub whole_suffixed : {room at₀ a b c r : ℕ} {o o₁ o₂ o₃ o₄ : List ℕ} → (length suffix ≡ 0 → ⊥) → Puts (Prints nm ws p) room o o₁ at₀ a → Wrote room o₁ o₂ a (text_of 35) b → Wrote room o₂ o₃ b suffix c → Wrote room o₃ o₄ c (text_of 36) r → Puts (Suffixed nm ws p suffix) room o o₄ at₀ r
+  pub whole_suffixed : {o o₁ o₂ o₃ o₄ : Sink} → (length suffix ≡ 0 → ⊥) → Puts (Prints nm ws p) o o₁ → Appended o₁ o₂ (text_of 35) → Appended o₂ o₃ suffix → Appended o₃ o₄ (text_of 36) → Puts (Suffixed nm ws p suffix) o o₄
   whole_suffixed e w x y z = record {
-    next = z.next;
-    len = z.len ∙ y.len ∙ x.len ∙ w.len;
+    same = z.same ∙ y.same ∙ x.same ∙ w.same;
+    room = z.room ∙ y.room ∙ x.room ∙ w.room;
+    len = z.wrote.len ∙ y.wrote.len ∙ x.wrote.len ∙ w.len;
     each = λ s k.
-        wrote_is (sym (k.is ∙ ap (λ (t : Name). k.text ++ t) (some_suffix suffix e))) (wrote_then (w.each k.text k.prints) (wrote_then x (wrote_then y z)));
+        appended_is (sym (k.is ∙ ap (λ (t : Name). k.text ++ t) (some_suffix suffix e))) (appended_then (w.each k.text k.prints) (appended_then x (appended_then y z)));
   }
 
 meant : {nm : Names} {ws : List ℕ} {p : ℕ} (suffix : Text) (s : Name) → Prints nm ws p s → Suffixed nm ws p suffix (s ++ suffix_text suffix)
@@ -48,7 +52,7 @@ meant suffix s k = record { text = s; prints = k; is = refl }
 
 -- PRINTED ONCE
 -- into a slice z, if it fits
-module _ {nm : Names} {ws : List ℕ} {p n m : ℕ} {suffix : Text} {z e : List ℕ} (o : List ℕ) (full : length z ≡ n) (h : Puts (Suffixed nm ws p suffix) n z e 0 m) (l : m ≤ n) where
+module _ {nm : Names} {ws : List ℕ} {p n m : ℕ} {suffix : Text} {z e : List ℕ} (o : List ℕ) (full : length z ≡ n) (h : Shows (Suffixed nm ws p suffix) n z e m) (l : m ≤ n) where
   once_length : (s : Name) → Prints nm ws p s → length (s ++ suffix_text suffix) ≡ m
   once_length s k = let c = (h.each (s ++ suffix_text suffix) (meant suffix s k)).count in omega arith
 
@@ -75,7 +79,7 @@ nil_of : (e : List ℕ) → length e ≡ 0 → e ≡ []
 nil_of [] h = refl
 nil_of (x ∷ e) h = absurd (omega arith)
 
-module _ {nm : Names} {ws : List ℕ} {p : ℕ} {suffix : Text} (o : List ℕ) {e : List ℕ} {m : ℕ} (h : Puts (Suffixed nm ws p suffix) (length o) [] e 0 m) where
+module _ {nm : Names} {ws : List ℕ} {p : ℕ} {suffix : Text} (o : List ℕ) {e : List ℕ} {m : ℕ} (h : Shows (Suffixed nm ws p suffix) (length o) [] e m) where
   pub rendered_out : length o < m → Rendered nm ws p suffix o (e ++ o) m
   rendered_out l = record {
     each = λ s k.
@@ -84,7 +88,7 @@ module _ {nm : Names} {ws : List ℕ} {p : ℕ} {suffix : Text} (o : List ℕ) {
         record { count = omega arith; fits = λ (x : m ≤ length o). absurd (omega arith); refused = λ _. ap (λ (x : List ℕ). x ++ o) (nil_of e w.len) };
   }
 
-  pub rendered_in : {r : ℕ} {o' : List ℕ} → m ≤ length o → Puts (Suffixed nm ws p suffix) (length o) (e ++ o) o' 0 r → Rendered nm ws p suffix o o' r
+  pub rendered_in : {r : ℕ} {o' : List ℕ} → m ≤ length o → Shows (Suffixed nm ws p suffix) (length o) (e ++ o) o' r → Rendered nm ws p suffix o o' r
   rendered_in {r} l v = record {
     each = λ s k.
         let w1 = h.each (s ++ suffix_text suffix) (meant suffix s k) in

@@ -2,6 +2,7 @@
 use Rattle.std.specs.Prelude.{◌≡◌, List, ◌++◌, ℕ, ◌+◌, ◌≤◌, ◌<◌, min, length, drop}
 use Rattle.definition.specs.Base.{Name}
 use Rattle.definition.specs.Text.{Text, suffix_text}
+use Rattle.text_output.specs.Sink.{Room, Wrote}
 use Rattle.tree_records.specs.Lies.{at}
 use Rattle.tree_records.specs.Holds.{Names}
 use Rattle.print_labels.specs.RowTexts.{Prints}
@@ -17,6 +18,12 @@ pub record Shown (s : Name) (o o' : List ℕ) (r : ℕ) : Type 0 where
   pub count : r ≡ min (length s) (length o + 1)
   pub fits : r ≤ length o → o' ≡ s ++ drop r o
   pub refused : length o < r → o' ≡ o
+
+-- whichever text is meant, it is appended at the front of a slice
+pub record Shows (Is : Name → Type 0) (room : ℕ) (o o' : List ℕ) (r : ℕ) : Type 0 where
+  pub next : Room room o' r
+  pub len : length o' ≡ length o
+  pub each : (s : Name) → Is s → Wrote room o o' 0 s r
 
 -- the text of a tree at p, followed by the suffix
 pub record Suffixed (nm : Names) (ws : List ℕ) (p : ℕ) (suffix : Text) (s : Name) : Type 0 where

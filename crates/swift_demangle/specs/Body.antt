@@ -1,5 +1,5 @@
 -- The end of a whole reading. Assumes nothing.
-use Rattle.std.specs.Prelude.{◌≡◌, List, ◌++◌, ℕ, ◌+◌, length}
+use Rattle.std.specs.Prelude.{◌≡◌, List, ◌++◌, ℕ, ◌+◌, ◌≤◌, length}
 use Rattle.definition.specs.Base.{Name}
 use Rattle.definition.specs.Text.{Text, Symbol, suffix_text}
 use Rattle.definition.specs.Node.{kind}
@@ -8,10 +8,9 @@ use Rattle.definition.specs.Perform.{Demangler}
 use Rattle.definition.specs.Calls.{within, finished}
 use Rattle.definition.specs.declared.Answer.{Answer}
 use Rattle.call_endings.specs.Answers.{Answers}
-use Rattle.text_words.specs.Table.{table}
-use Rattle.text_words.specs.declared.Words.{Words}
+use Rattle.text_words.specs.Table.{table, Fitting}
+use Rattle.text_words.specs.Table.{Words}
 use Rattle.tree_records.specs.NamesOf.{noted, names_of}
-use Rattle.print_names.specs.Naming.{Known}
 use Rattle.tree_nodes.specs.Gives.{nothing_spare}
 use Rattle.tree_records.specs.Holds.{Holds}
 use Rattle.tree_records.specs.declared.State.{State}
@@ -20,7 +19,8 @@ use Rattle.machine.specs.declared.runs.Final.{Final}
 
 -- the workspace holds some machine, with the names of the body
 pub record Held (body : Text) (words : Words) (w : List ℕ) (N : ℕ) (st : State) : Type 0 where
-  pub known : Known body words
+  pub short : length body ≤ 65535
+  pub fitting : Fitting body words
   pub machine : Demangler
   pub all : List Name
   pub holds : Holds (names_of body (noted (table body words) all)) w N st nothing_spare machine

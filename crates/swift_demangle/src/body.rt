@@ -14,8 +14,8 @@ use call_endings::{measured, stacked};
 use definition::{Answer, Refusal};
 use machine::budget::Budget;
 use machine::runs::Final;
+use print_names::Source;
 use text_words::Words;
-use tree_ends::Sole;
 use tree_records::State;
 use tree_run::Ended;
 
@@ -36,15 +36,17 @@ fn finish(
     ensures { Finishes what body.now suffix.now end words ws.now ceiling st out.old out.new result }
 {
     match tree_ends::single(ws, ceiling, st, what) {
-        Sole::At(p) => {
+        Some(p) => {
             let room = out.len();
-            let starts = words.starts;
-            let lengths = words.lengths;
-            let n = print_tree::render(out, ws, body, &starts, &lengths, words.count, p, suffix);
-            let budget = st.budget;
-            measured(budget, n, room)
+            let from = Source {
+                text: body,
+                words: &words,
+                ws,
+            };
+            let n = print_tree::render(out, &from, p, suffix);
+            measured(st.budget, n, room)
         }
-        Sole::Nothing => Answer::Refused(Refusal::Leftover, end),
+        None => Answer::Refused(Refusal::Leftover, end),
     }
 }
 

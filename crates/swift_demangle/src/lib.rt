@@ -12,7 +12,6 @@ ghost use Rattle.call_endings.specs.Answers.{Answers};
 ghost use Rattle.call_endings.specs.Workspace.{Scratch};
 ghost use Rattle.swift_demangle.specs.Calls.{read_whole, read_stopped};
 
-use call_admission::Admitted;
 use definition::Answer;
 use machine::runs::Final;
 
@@ -22,10 +21,10 @@ fn read(text: &[u8], what: Final, ceiling: usize, workspace: &mut [u32], out: &m
     ensures { Answers (read_whole what text.now ceiling (length workspace.old) (length out.old)) out.old out.new result × Scratch 64 ceiling (Enums.values result).number workspace.old workspace.new }
 {
     match call_admission::admit(text, what, ceiling, 64, workspace.len()) {
-        Admitted::Body(start, end) => crate::body::read_body(
-            text, start, end, what, ceiling, workspace, out,
+        Ok(body) => crate::body::read_body(
+            text, body.start, body.end, what, ceiling, workspace, out,
         ),
-        Admitted::Refused(r, at) => Answer::Refused(r, at),
+        Err(x) => Answer::Refused(x.refusal, x.at),
     }
 }
 
@@ -40,10 +39,10 @@ fn read_stopped(
     ensures { Answers (read_stopped what text.now ceiling k (length workspace.old) (length out.old)) out.old out.new result × Scratch 64 ceiling (Enums.values result).number workspace.old workspace.new }
 {
     match call_admission::admit(text, what, ceiling, 64, workspace.len()) {
-        Admitted::Body(start, end) => crate::body::read_stopped_body(
-            text, start, end, ceiling, k, workspace, out,
+        Ok(body) => crate::body::read_stopped_body(
+            text, body.start, body.end, ceiling, k, workspace, out,
         ),
-        Admitted::Refused(r, at) => Answer::Refused(r, at),
+        Err(x) => Answer::Refused(x.refusal, x.at),
     }
 }
 

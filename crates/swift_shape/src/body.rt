@@ -10,7 +10,9 @@ ghost use Rattle.machine.specs.Beyond.{Beyond};
 ghost use Rattle.text_symbols.specs.Symbol as Symbols;
 
 use call_endings::{counts, stacked};
-use check_run::Ended;
+use check_ends::{single, write_stack};
+use check_entries::Entries;
+use check_run::run;
 use definition::{Answer, Refusal};
 use machine::budget::Budget;
 use machine::runs::Final;
@@ -27,15 +29,15 @@ pub fn check_body(
     requires { (start ≤ end) × (end ≤ length text.now) × (length text.now ≤ 65535) × (ceiling ≤ 65536) × (8 * ceiling ≤ length workspace.old) × (Text.well_formed (take (end - start) (drop start text.now)) ≡ true) }
     ensures { (Enums.values result ≡ (Check.whole ceiling (kinds_of what) (Symbols.symbol text.now start end)).values) × Beyond 8 ceiling workspace.old workspace.new }
 {
-    match check_run::run(&text[start..end], Budget::ALL_TURNS, workspace, ceiling) {
-        Ended::Ran(st) => {
-            if check_ends::single(workspace, st, what) {
-                let budget = st.budget;
-                return Answer::Accepted(counts(budget), 0);
+    let mut entries = Entries::new(workspace, ceiling);
+    match run(&text[start..end], Budget::ALL_TURNS, &mut entries) {
+        Ok(()) => {
+            if single(&entries, what) {
+                return Answer::Accepted(counts(entries.state.budget), 0);
             }
             Answer::Refused(Refusal::Leftover, end)
         }
-        Ended::Stopped(r, at) => Answer::Refused(r, start + at),
+        Err(stopped) => Answer::Refused(stopped.refusal, start + stopped.at),
     }
 }
 
@@ -52,12 +54,12 @@ pub fn check_stopped_body(
     requires { (start ≤ end) × (end ≤ length text.now) × (length text.now ≤ 65535) × (ceiling ≤ 65536) × (8 * ceiling ≤ length workspace.old) × (Text.well_formed (take (end - start) (drop start text.now)) ≡ true) }
     ensures { Answers (Calls.within (length out.old) (Check.stopped_after ceiling k (Symbols.symbol text.now start end))) out.old out.new result × Beyond 8 ceiling workspace.old workspace.new }
 {
-    match check_run::run(&text[start..end], k, workspace, ceiling) {
-        Ended::Ran(st) => {
-            let written = check_ends::write_stack(workspace, st, out);
-            let budget = st.budget;
-            stacked(budget, written)
+    let mut entries = Entries::new(workspace, ceiling);
+    match run(&text[start..end], k, &mut entries) {
+        Ok(()) => {
+            let written = write_stack(&entries, out);
+            stacked(entries.state.budget, written)
         }
-        Ended::Stopped(r, at) => Answer::Refused(r, start + at),
+        Err(stopped) => Answer::Refused(stopped.refusal, start + stopped.at),
     }
 }

@@ -13,7 +13,6 @@ ghost use Rattle.call_endings.specs.Answers.{Answers};
 ghost use Rattle.call_endings.specs.Workspace.{Scratch};
 ghost use Rattle.swift_shape.specs.Calls.{check_whole, check_stopped};
 
-use call_admission::Admitted;
 use definition::Answer;
 use machine::runs::Final;
 
@@ -23,10 +22,8 @@ fn check(text: &[u8], what: Final, ceiling: usize, workspace: &mut [u32]) -> Ans
     ensures { (Enums.values result ≡ (check_whole what text.now ceiling (length workspace.old)).values) × Scratch 8 ceiling (Enums.values result).number workspace.old workspace.new }
 {
     match call_admission::admit(text, what, ceiling, 8, workspace.len()) {
-        Admitted::Body(start, end) => crate::body::check_body(
-            text, start, end, what, ceiling, workspace,
-        ),
-        Admitted::Refused(r, at) => Answer::Refused(r, at),
+        Ok(body) => crate::body::check_body(text, body.start, body.end, what, ceiling, workspace),
+        Err(x) => Answer::Refused(x.refusal, x.at),
     }
 }
 
@@ -41,16 +38,17 @@ fn check_stopped(
     ensures { Answers (check_stopped what text.now ceiling k (length workspace.old) (length out.old)) out.old out.new result × Scratch 8 ceiling (Enums.values result).number workspace.old workspace.new }
 {
     match call_admission::admit(text, what, ceiling, 8, workspace.len()) {
-        Admitted::Body(start, end) => crate::body::check_stopped_body(
-            text, start, end, ceiling, k, workspace, out,
+        Ok(body) => crate::body::check_stopped_body(
+            text, body.start, body.end, ceiling, k, workspace, out,
         ),
-        Admitted::Refused(r, at) => Answer::Refused(r, at),
+        Err(x) => Answer::Refused(x.refusal, x.at),
     }
 }
 
 // The calls
 
 // Checks the shape of a symbol.
+#[tactic(auto, unfolding(definition::specs::Check::shape))]
 pub fn shape(text: &[u8], ceiling: usize, workspace: &mut [u32]) -> Answer
     ensures { (Enums.values result ≡ (Check.shape text.now ceiling (length workspace.old)).values) × Scratch 8 ceiling (Enums.values result).number workspace.old workspace.new }
 {
@@ -58,6 +56,7 @@ pub fn shape(text: &[u8], ceiling: usize, workspace: &mut [u32]) -> Answer
 }
 
 // Checks the shape of a type.
+#[tactic(auto, unfolding(definition::specs::Check::shape_type))]
 pub fn shape_type(text: &[u8], ceiling: usize, workspace: &mut [u32]) -> Answer
     ensures { (Enums.values result ≡ (Check.shape_type text.now ceiling (length workspace.old)).values) × Scratch 8 ceiling (Enums.values result).number workspace.old workspace.new }
 {
@@ -65,6 +64,7 @@ pub fn shape_type(text: &[u8], ceiling: usize, workspace: &mut [u32]) -> Answer
 }
 
 // Checks the shape of the first k operators of a symbol, and writes the entries of the stack.
+#[tactic(auto, unfolding(definition::specs::Check::shape_stopped))]
 pub fn shape_stopped(
     text: &[u8],
     ceiling: usize,
@@ -78,6 +78,7 @@ pub fn shape_stopped(
 }
 
 // The same for a type.
+#[tactic(auto, unfolding(definition::specs::Check::shape_type_stopped))]
 pub fn shape_type_stopped(
     text: &[u8],
     ceiling: usize,

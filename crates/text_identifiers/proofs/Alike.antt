@@ -17,7 +17,8 @@ use Rattle.definition.specs.Words.{literal, note_words, is_empty}
 use Rattle.definition.specs.Check as C
 use Rattle.definition.specs.Check.{count_words_from}
 use Rattle.definition.proofs.WordsAdded.{Long, WellKept, note_words_well_kept}
-use Rattle.text_identifiers.specs.Rounds.{closes, takes, letters, closing, Got, got, finish, known_after, after, rounds, identifier_of}
+use Rattle.text_words.proofs.Counting.{counted}
+use Rattle.text_identifiers.specs.Rounds.{Round, closes, takes, letters, closing, round, Got, got, finish, known_after, after, rounds, identifier_of}
 
 -- OUTCOMES
 abbrev pub map_out : {A B : Type 0} → (A → B) → Out Text A → Out Text B
@@ -180,3 +181,39 @@ table_alike ws t k =
     then_alike table_got ((if z then next_if (is "0") else ret false) u) _ _ λ p v.
     ap (λ o. and_then o finish) (table_loop (suc (length t)) (z && not p) p ws [] v k)
     ∙ mapped_alike table_got table_got (W.identifier_from (suc (length t)) (z && not p) p ws [] v) finish _ (λ r w. table_finish (is_empty r.name) r w)
+
+-- THE SAME LOOP, counted
+abbrev pub length_got : Got (List Name) → Got ℕ
+length_got r = got r.empty (length r.words)
+
+known_counted : (punycoded : Bool) (slice : Name) (ws : List Name) → known_after (count_words_from 0 0) punycoded slice (length ws) ≡ length (known_after note_words punycoded slice ws)
+known_counted true slice ws = refl
+known_counted false slice ws = counted slice ws
+
+rounds_counted : (f : ℕ) (subs punycoded : Bool) (ws : List Name) (e : Bool) (t : Text) → rounds itself (count_words_from 0 0) f subs punycoded (length ws) e t ≡ map_out length_got (rounds length note_words f subs punycoded ws e t)
+unfolding rounds
+rounds_counted zero subs punycoded ws e t = refl
+rounds_counted (suc f) subs punycoded ws e t =
+    then_alike length_got (round (length ws) subs punycoded e t) (after itself (count_words_from 0 0) punycoded (length ws) (rounds itself (count_words_from 0 0) f true punycoded)) (after length note_words punycoded ws (rounds length note_words f true punycoded))
+    (go (λ ws e u. rounds_counted f true punycoded ws e u))
+  where
+    go : ((ws : List Name) (e : Bool) (u : Text) → rounds itself (count_words_from 0 0) f true punycoded (length ws) e u ≡ map_out length_got (rounds length note_words f true punycoded ws e u)) → (a : Round) (u : Text) →
+        after itself (count_words_from 0 0) punycoded (length ws) (rounds itself (count_words_from 0 0) f true punycoded) a u ≡ map_out length_got (after length note_words punycoded ws (rounds length note_words f true punycoded) a u)
+    go ih (closes e) u = refl
+    go ih (takes e m slice) u =
+        let k = known_counted punycoded slice ws in
+        if_alike length_got m _ _ _ _ u
+        (ap (λ (n : ℕ). rounds itself (count_words_from 0 0) f true punycoded n (e && is_empty slice) u) k ∙ ih (known_after note_words punycoded slice ws) (e && is_empty slice) u)
+        (ap (λ (n : ℕ). ok (got (e && is_empty slice) n) u) k)
+
+finish_counted : (e : Bool) (ws : List Name) (u : Text) → finish (got e (length ws)) u ≡ map_out length_got (finish (got e ws) u)
+finish_counted true ws u = refl
+finish_counted false ws u = refl
+
+pub identifier_counted : (ws : List Name) (t : Text) → identifier_of itself (count_words_from 0 0) (length ws) t ≡ map_out length_got (identifier_of length note_words ws t)
+unfolding identifier_of
+identifier_counted ws t =
+    then_alike length_got (next_if (is "0") t) _ _ λ z u.
+    then_alike length_got ((if z then next_if (is "0") else ret false) u) _ _ λ p v.
+    ap (λ o. and_then o finish) (rounds_counted (suc (length t)) (z && not p) p ws true v)
+    ∙ mapped_alike length_got length_got (rounds length note_words (suc (length t)) (z && not p) p ws true v) finish finish (λ r w. finish_counted r.empty r.words w)

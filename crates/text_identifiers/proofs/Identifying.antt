@@ -1,47 +1,48 @@
 -- From the rounds to the results of `identifier` and `identifier_count`. Assumes nothing.
-use mathlib.Core.Path.{◌≡◌, ap, ◌∙◌, subst}
+use mathlib.Core.Path.{◌≡◌, refl, sym, ap, ◌∙◌, subst}
 use mathlib.Core.Bool.{Bool, true, false, not}
 use mathlib.Core.List.{List, [], ◌∷◌, ◌++◌}
 use Prim.Native.Nat.{ℕ, zero, suc, ◌+◌, ◌≤◌, ◌<◌}
 use native.Mathlib.Omega.{arith}
-use lib.ListN.{length, get_or, drop, length-drop}
+use lib.ListN.{length, drop, length-drop}
 use lib.Seq.{length-take-le}
 use Rattle.definition.specs.Base.{Name, is, Out, ok, refused}
 use Rattle.definition.specs.Text.{Text, next_if}
 use Rattle.definition.specs.Words as W
 use Rattle.definition.specs.Check as C
-use Rattle.text_cursor.specs.declared.Cursor.{Cursor}
 use Rattle.definition.proofs.WordsAdded.{Long, WellKept}
-use Rattle.text_words.specs.Table.{word_of, words_of, table, Fitting}
-use Rattle.text_identifiers.specs.Rounds.{Got, got, named, identifier_of}
-use Rattle.text_identifiers.specs.Identifiers.{Got_table, Got_count, Reads, Answered, Identifies, Counts, Counted}
-use Rattle.text_identifiers.specs.declared.Identified.{Identified}
-use Rattle.text_words.specs.declared.Words.{Words}
-use Rattle.text_identifiers.specs.declared.NameRead.{NameRead}
-use Rattle.text_identifiers.specs.declared.NameRead.TheVariants as NameRead
-use Rattle.text_identifiers.specs.declared.CountRead.{CountRead}
-use Rattle.text_identifiers.specs.declared.CountRead.TheVariants as CountRead
+use Rattle.std.specs.Prelude.{Result, Ok, Err}
+use denote.Ref.{Bor}
+use Rattle.definition.specs.declared.Refusal.{Refusal}
+use Rattle.text_cursor.specs.declared.Reader.{Reader}
+use Rattle.text_cursor.specs.Reads.{rest, Stands}
+use Rattle.text_words.specs.declared.spans.Span.{Span}
+use Rattle.text_words.specs.Table.{Words, span_at, word_of, words_of, table, Fitting, Lists}
 use Rattle.text_words.proofs.Keeping.{table_length}
-use Rattle.text_identifiers.proofs.Alike.{map_out, table_got, count_got}
+use Rattle.text_words.proofs.Counting.{some_words, some_many}
+use Rattle.text_identifiers.specs.Rounds.{Got, got, named, identifier_of}
+use Rattle.text_identifiers.specs.Identifiers.{Finds, Named, Identifies, Counted}
+use Rattle.text_identifiers.proofs.Alike.{map_out, table_got, count_got, length_got, table_alike, count_alike, identifier_counted}
 
 -- THE TABLE IS VALID
 long_snoc : (ws : List Name) (w : Name) → Long ws → 2 ≤ length w → Long (ws ++ (w ∷ []))
 long_snoc [] w l h = (h, tt)
 long_snoc (x ∷ ws) w l h = (l.0, long_snoc ws w l.1 h)
 
-long_words : (text : Text) (s l : List ℕ) (n : ℕ) → ((i : ℕ) → i < n → get_or s i 0 + get_or l i 0 ≤ length text) → ((i : ℕ) → i < n → 2 ≤ get_or l i 0) → Long (words_of text s l n)
+long_words : (text : Text) (s : List Span) (n : ℕ) → ((i : ℕ) → i < n → (span_at s i).start + (span_at s i).length ≤ length text) → ((i : ℕ) → i < n → 2 ≤ (span_at s i).length) → Long (words_of text s n)
 unfolding words_of
-long_words text s l zero h k = tt
-long_words text s l (suc n) h k =
+long_words text s zero h k = tt
+long_words text s (suc n) h k =
     let i : n < suc n = omega arith in
-    let fits : get_or l n 0 ≤ length (drop (get_or s n 0) text) = simp length-drop (omega (arith, h n i)) in
-    let long : 2 ≤ length (word_of text s l n) = rw (length-take-le (get_or l n 0) (drop (get_or s n 0) text) fits) (k n i) in
-    long_snoc (words_of text s l n) (word_of text s l n)
-    (long_words text s l n (λ j p. let q : j < suc n = omega arith in h j q) (λ j p. let q : j < suc n = omega arith in k j q)) long
+    let a = span_at s n in
+    let fits : a.length ≤ length (drop a.start text) = simp length-drop (omega (arith, h n i)) in
+    let long : 2 ≤ length (word_of text s n) = rw (length-take-le a.length (drop a.start text) fits) (k n i) in
+    long_snoc (words_of text s n) (word_of text s n)
+    (long_words text s n (λ j p. let q : j < suc n = omega arith in h j q) (λ j p. let q : j < suc n = omega arith in k j q)) long
 
 pub well_kept : (text : Text) (w : Words) → Fitting text w → WellKept (table text w)
 well_kept text w g = record {
-  long = long_words text w.starts w.lengths w.count g.inside g.long;
+  long = long_words text w.spans w.count g.inside g.long;
   few = rw (← table_length text w) g.few;
 }
 
@@ -55,48 +56,80 @@ module _ {S : Type 0} (count : S → ℕ) (note : Text → S → S) (words : S) 
   unfolding identifier_of
   first_zero e k = rw (e, k)
 
-pub fuel_enough : (text : Text) (from at : ℕ) → from ≤ at → length text < at + suc (length (drop from text))
-fuel_enough text from at h = rw (length-drop from text) (omega arith)
+pub fuel_enough : {old mid : Reader} → mid.text ≡ old.text → old.at ≤ mid.at → length mid.text.now < mid.at + suc (length (rest old))
+fuel_enough {old} {mid} t h = rw (t, length-drop old.at old.text.now) (omega arith)
+
+-- what is found from `mid` on was found from `old` on
+pub finds_on : (stands : List Name → Type 0) {o o' : Out Text (Got (List Name))} (old mid new : Reader) (r : Result Unit Refusal) → o ≡ o' → mid.text ≡ old.text → old.at ≤ mid.at → Finds stands o' mid new r → Finds stands o old new r
+finds_on stands old mid new (Ok u) e t l h = record { words = h.words; met = h.met; is = record { is = e ∙ h.is.is; text = h.is.text ∙ t; inside = h.is.inside; onward = omega (arith, h.is.onward) } }
+finds_on stands old mid new (Err f) e t l h = record { words = h.words; met = h.met; is = e ∙ h.is }
 
 -- WHAT THE RESULTS SAY
-module _ (text : Text) {from at : ℕ} (l : from ≤ at) where
-  pub answered : (w : Words) (out : Out Text W.Identified) {o : Out Text (Got (List Name))} → map_out table_got out ≡ o → (r : NameRead) → Got_table o text at r w → Answered out text from r w
-  answered w (ok i u) e (NameRead.Read c) h =
-      let k = e ∙ h.is in
-      let q : table_got i ≡ got false (table text w) = cc in
-      let s : i.words ≡ table text w = ap (λ (x : Got (List Name)). x.words) q in
-      let v : u ≡ drop c.at text = cc in
+module _ (old new : Reader) where
+  named_is : (w : Words) (out : Out Text W.Identified) {ws : List Name} {u : Text} → map_out table_got out ≡ ok (got false ws) u → table old.text.now w ≡ ws → u ≡ rest new → new.text ≡ old.text → new.at ≤ length new.text.now → old.at + 1 ≤ new.at → Named out old new w
+  named_is w (ok i v) {ws} {u} e q z t k l =
+      let p : table_got i ≡ got false ws = cc in
+      let s : i.words ≡ table old.text.now w = ap (λ (x : Got (List Name)). x.words) p ∙ sym q in
+      let y : v ≡ rest new = cc in
       record {
         name = i.name;
-        is = ap (λ (ws : List Name). ok (W.identified i.name ws) u) s ∙ ap (λ (x : Text). ok (W.identified i.name (table text w)) x) v;
-        onward = omega (arith, h.onward);
-        inside = h.inside;
+        is = record {
+          is = ap (λ (ws : List Name). ok (W.identified i.name ws) v) s ∙ ap (λ (x : Text). ok (W.identified i.name (table old.text.now w)) x) y;
+          text = t;
+          inside = k;
+          onward = l;
+        };
       }
-  answered w (ok i u) e (NameRead.Refused f) h = absurd (let k = e ∙ h in let z : ◌≡◌ {A = ℕ} 0 1 = cc in omega arith)
-  answered w (refused n) e (NameRead.Read c) h = absurd (let k = e ∙ h.is in let z : ◌≡◌ {A = ℕ} 0 1 = cc in omega arith)
-  answered w (refused n) e (NameRead.Refused f) h = let k = e ∙ h in cc
+  named_is w (refused n) e q z t k l = absurd (let y : ◌≡◌ {A = ℕ} 0 1 = cc in omega arith)
 
-  pub counted : (out : Out Text C.Identified) {o : Out Text (Got ℕ)} → map_out count_got out ≡ o → (r : CountRead) → Got_count o text at r → Counted out text from r
-  counted (ok i u) e (CountRead.Read n c) h =
-      let k = e ∙ h.is in
-      let q : count_got i ≡ got false n = cc in
-      let b : i.empty ≡ false = ap (λ (x : Got ℕ). x.empty) q in
-      let s : i.words ≡ n = ap (λ (x : Got ℕ). x.words) q in
-      let v : u ≡ drop c.at text = cc in
-      record {
-        is = ap (λ (x : Bool). ok (C.identified x i.words) u) b ∙ ap (λ (m : ℕ). ok (C.identified false m) u) s ∙ ap (λ (x : Text). ok (C.identified false n) x) v;
-        onward = omega (arith, h.onward);
-        inside = h.inside;
+  refused_is : {A B : Type 0} (g : A → B) (out : Out Text A) {n : ℕ} → map_out g out ≡ refused n → out ≡ refused n
+  refused_is g (ok i v) e = absurd (let y : ◌≡◌ {A = ℕ} 0 1 = cc in omega arith)
+  refused_is g (refused m) e = cc
+
+  pub identifies : (w w' : Words) → Fitting old.text.now w → (r : Result Unit Refusal) → Finds (Lists old.text.now w') (identifier_of length W.note_words (table old.text.now w) (rest old)) old new r → Identifies (W.identifier (table old.text.now w) (rest old)) old new w' r
+  identifies w w' g (Ok u) h = record {
+    answer = named_is w' (W.identifier (table old.text.now w) (rest old)) (sym (table_alike (table old.text.now w) (rest old) (well_kept old.text.now w g)) ∙ h.is.is) h.met.is refl h.is.text h.is.inside h.is.onward;
+    fitting = h.met.fitting;
+  }
+  identifies w w' g (Err f) h = record {
+    answer = refused_is table_got (W.identifier (table old.text.now w) (rest old)) (sym (table_alike (table old.text.now w) (rest old) (well_kept old.text.now w g)) ∙ h.is);
+    fitting = h.met.fitting;
+  }
+
+  count_is : (out : Out Text C.Identified) {n : ℕ} {u : Text} → map_out count_got out ≡ ok (got false n) u → out ≡ ok (C.identified false n) u
+  count_is (ok i v) {n} {u} e =
+      let p : count_got i ≡ got false n = cc in
+      let b : i.empty ≡ false = ap (λ (x : Got ℕ). x.empty) p in
+      let s : i.words ≡ n = ap (λ (x : Got ℕ). x.words) p in
+      let y : v ≡ u = cc in
+      ap (λ (x : Bool). ok (C.identified x i.words) v) b ∙ ap (λ (m : ℕ). ok (C.identified false m) v) s ∙ ap (λ (x : Text). ok (C.identified false n) x) y
+  count_is (refused m) e = absurd (let y : ◌≡◌ {A = ℕ} 0 1 = cc in omega arith)
+
+  pub counts : (n n' : ℕ) (r : Result Unit Refusal) → ((ws : List Name) → n ≡ length ws → Finds (λ vs. n' ≡ length vs) (identifier_of length W.note_words ws (rest old)) old new r) → Counted (C.identifier n (rest old)) old new n' r
+  counts n n' r h = go r (h (some_words n) (some_many n))
+    where
+      alike : map_out count_got (C.identifier n (rest old)) ≡ map_out length_got (identifier_of length W.note_words (some_words n) (rest old))
+      alike = sym (count_alike n (rest old)) ∙ ap (λ (m : ℕ). identifier_of (λ (k : ℕ). k) (C.count_words_from 0 0) m (rest old)) (some_many n) ∙ identifier_counted (some_words n) (rest old)
+
+      go : (r : Result Unit Refusal) → Finds (λ vs. n' ≡ length vs) (identifier_of length W.note_words (some_words n) (rest old)) old new r → Counted (C.identifier n (rest old)) old new n' r
+      go (Ok u) h = record {
+        is = count_is (C.identifier n (rest old)) (alike ∙ ap (map_out length_got) h.is.is ∙ ap (λ (m : ℕ). ok (got false m) (rest new)) (sym h.met));
+        text = h.is.text;
+        inside = h.is.inside;
+        onward = h.is.onward;
       }
-  counted (ok i u) e (CountRead.Refused f) h = absurd (let k = e ∙ h in let z : ◌≡◌ {A = ℕ} 0 1 = cc in omega arith)
-  counted (refused n) e (CountRead.Read m c) h = absurd (let k = e ∙ h.is in let z : ◌≡◌ {A = ℕ} 0 1 = cc in omega arith)
-  counted (refused n) e (CountRead.Refused f) h = let k = e ∙ h in cc
+      go (Err f) h = refused_is count_got (C.identifier n (rest old)) (alike ∙ ap (map_out length_got) h.is)
 
 -- FOR CALLERS
--- what the result says that a match took apart
-module _ (text : Text) (from : ℕ) where
-  pub identifier_read : {out : Out Text W.Identified} {r : Identified} {c : Cursor} → r.read ≡ NameRead.Read c → Identifies out text from r → Reads out text from r.words c
-  identifier_read {out} {r} e h = subst (λ (k : NameRead). Answered out text from k r.words) e h.answer
+-- the place that a reader stands at, in the text that it was given
+pub record Place {A : Type 0} (out : Out Text A) (a : A) (text : Text) (least at : ℕ) : Type 0 where
+  pub is : out ≡ ok a (drop at text)
+  pub inside : at ≤ length text
+  pub onward : least ≤ at
 
-  pub count_read : {out : Out Text C.Identified} {r : CountRead} {n : ℕ} {c : Cursor} → r ≡ CountRead.Read n c → Counted out text from r → Counts out text from n c
-  count_read {out} e h = subst (Counted out text from) e h
+pub place : {A : Type 0} {o : Out Text A} {a : A} {least : ℕ} {old new : Reader} → Stands o a least old new → Place o a old.text.now (old.at + least) new.at
+place {a = a} {new = new} h = record {
+  is = h.is ∙ ap (λ (s : Bor (List ℕ)). ok a (drop new.at s.now)) h.text;
+  inside = subst (λ (s : Bor (List ℕ)). new.at ≤ length s.now) h.text h.inside;
+  onward = h.onward;
+}

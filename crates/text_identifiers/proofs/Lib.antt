@@ -1,5 +1,5 @@
-pub mod Steps
-pub mod Rounds
 pub mod Alike
-pub mod Identifying
+pub mod Rounds
+pub mod Steps
 pub mod OneLiteral
+pub mod Identifying

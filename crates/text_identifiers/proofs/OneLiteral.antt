@@ -1,54 +1,40 @@
 -- An identifier that does not begin with `0` is one literal. Assumes nothing.
-use mathlib.Core.Path.{◌≡◌, refl, sym, ap, ◌∙◌}
-use mathlib.Core.Bool.{Bool, true, false, true≢false}
+use mathlib.Core.Path.{◌≡◌, refl, sym, ap, subst, ◌∙◌}
+use mathlib.Core.Bool.{true, false}
 use mathlib.Core.List.{List, [], ◌∷◌}
 use Prim.Native.Nat.{ℕ, ◌+◌, ◌≤◌, ◌<◌}
 use native.Mathlib.Omega.{arith}
 use lib.ListN.{length, get_or, drop}
-use Rattle.definition.specs.Base.{Name, is, Out, ok, refused, and_then}
+use Rattle.definition.specs.Base.{Name, is, ok, refused, and_then}
 use Rattle.definition.specs.Text.{Text, next_if}
 use Rattle.definition.specs.Words as W
 use Rattle.definition.specs.Words.{literal, is_empty}
 use Rattle.definition.specs.Check as C
-use Rattle.text_cursor.specs.declared.Cursor.{Cursor}
+use Rattle.definition.specs.Enums.{number}
+use Rattle.definition.specs.declared.Refusal.{Refusal}
 use Rattle.text_cursor.proofs.Steps.{next_if_leaves}
 use Rattle.text_words.specs.Table.{part}
 use Rattle.text_words.proofs.Parts.{part_length}
-use Rattle.text_identifiers.specs.Rounds.{takes, round, got, known_after, named}
-use Rattle.text_identifiers.specs.Identifiers.{NoZero, Reaches, Lies}
+use Rattle.text_identifiers.specs.Rounds.{takes, round, got, named}
+use Rattle.text_cursor.specs.declared.Reader.{Reader}
+use Rattle.text_cursor.specs.Reads.{rest, Left}
+use Rattle.text_identifiers.specs.declared.Extent.{Extent}
+use Rattle.text_identifiers.specs.Identifiers.{NoZero, Lies, Taken, Found, Missed}
 use Rattle.text_identifiers.proofs.Steps.{closing_takes}
-use Rattle.text_identifiers.proofs.Rounds.{running_first, running_last, running_refused}
+use Rattle.text_identifiers.proofs.Rounds.{Reaches, standing, running_first, running_last, running_refused}
 
 -- a byte that is not taken remains
-flag_of : Out Text Bool → Bool
-flag_of (ok b u) = b
-flag_of (refused n) = true
-
-rest_of : Out Text Bool → Text
-rest_of (ok b u) = u
-rest_of (refused n) = []
-
-stays : (t : Text) → flag_of (next_if (is "0") t) ≡ false → rest_of (next_if (is "0") t) ≡ t
-unfolding next_if rest_of flag_of
-stays [] e = refl
-stays (b ∷ t) e = go (is "0" b) e
-  where
-    go : (d : Bool) → flag_of (elim d [ true ↦ ok true t | false ↦ ok false (b ∷ t) ]) ≡ false → rest_of (elim d [ true ↦ ok true t | false ↦ ok false (b ∷ t) ]) ≡ b ∷ t
-    go true q = absurd (true≢false q)
-    go false q = refl
-
-pub no_zero : (x : Text) (at next : ℕ) → next_if (is "0") (drop at x) ≡ ok false (drop next x) → NoZero x next
-unfolding rest_of flag_of
-no_zero x at next e =
-    let q : drop next x ≡ drop at x = sym (ap rest_of e) ∙ stays (drop at x) (ap flag_of e) in
-    record { is = ap (next_if (is "0")) q ∙ e }
+pub no_zero : {old new : Reader} → Left (next_if (is "0")) old new → NoZero new.text.now new.at
+no_zero {old} {new} h =
+    let q : rest new ≡ rest old = rw (h.text, h.here) in
+    record { is = ap (next_if (is "0")) q ∙ h.is }
 
 module _ {S : Type 0} (count : S → ℕ) (note : Text → S → S) (text : Text) (words : S) (at : ℕ) (i : at ≤ length text) (z : NoZero text at) (f : ℕ) (h : length text < at + f) where
   first : (known : ℕ) → round known false false true (drop at text) ≡ and_then (literal false (drop at text)) (λ s v. ok (takes true false s) v)
   first known = closing_takes (drop at text) false true false z.is
 
   pub plain_read : {a b : ℕ} {words' : S} → Lies (literal false (drop at text)) (λ s. s) text at a b → words' ≡ note (part text a b) words →
-      Reaches (named count note f false false words true (drop at text)) (got false words') text (at + 1) (record { at = b })
+      Reaches (named count note f false false words true (drop at text)) (got false words') text (at + 1) b
   plain_read {a} {b} l w =
       running_last count note false text (running_first count note false text words false at i) refl f h refl
       (record { is = first (count words) ∙ ap (λ o. and_then o (λ s v. ok (takes true false s) v)) l.is; onward = l.onward; some = l.some; inside = l.inside }) w
@@ -57,6 +43,20 @@ module _ {S : Type 0} (count : S → ℕ) (note : Text → S → S) (text : Text
   plain_refused e =
       running_refused count note false text (running_first count note false text words false at i) refl f h
       (first (count words) ∙ ap (λ o. and_then o (λ s v. ok (takes true false s) v)) e)
+
+-- over a reader, and what is known of the words
+module _ {S : Type 0} (stands : S → List Name → Type 0) (old new : Reader) (i : old.at ≤ length old.text.now) (z : NoZero old.text.now old.at) (f : ℕ) (h : length old.text.now < old.at + f) (words : List Name) {known : S} (met : stands known words) where
+  pub plain_found : {known' : S} {e : Extent} → Taken (literal false (rest old)) (λ s. s) old new e →
+      ((ws : List Name) → stands known ws → stands known' (W.note_words (part old.text.now e.from e.to) ws)) → Found (stands known') (named length W.note_words f false false words true (rest old)) old new
+  plain_found {known'} {e} t a = record {
+    words = W.note_words (part old.text.now e.from e.to) words;
+    met = a words met;
+    is = standing t.text (subst (λ (k : ℕ). Reaches (named length W.note_words f false false words true (rest old)) (got false (W.note_words (part old.text.now e.from e.to) words)) old.text.now (old.at + 1) k) (sym t.here)
+        (plain_read length W.note_words old.text.now words old.at i z f h t.lies refl));
+  }
+
+  pub plain_missed : {x : Refusal} → literal false (rest old) ≡ refused (number x) → Missed (stands known) (named length W.note_words f false false words true (rest old)) x
+  plain_missed e = record { words = words; met = met; is = plain_refused length W.note_words old.text.now words old.at i z f h e }
 
 -- THE NAME
 some_name : (name : Name) → 0 < length name → is_empty name ≡ false

@@ -1,18 +1,29 @@
 -- The rounds of an identifier, over words as a table or as a count. Assumes nothing.
-use mathlib.Core.Path.{◌≡◌, refl, sym, ap, ◌∙◌}
+use mathlib.Core.Path.{◌≡◌, refl, sym, ap, subst, ◌∙◌}
 use mathlib.Core.Bool.{Bool, true, false, ◌&&◌}
-use mathlib.Core.List.{[], ◌∷◌}
+use mathlib.Core.List.{List, [], ◌∷◌}
 use Prim.Native.Nat.{ℕ, zero, suc, ◌+◌, ◌-◌, ◌≤◌, ◌<◌}
 use native.Mathlib.Omega.{arith}
 use lib.ListN.{length, drop}
 use Rattle.definition.specs.Base.{Name, Out, ok, refused, and_then}
-use Rattle.definition.specs.Text.{Text}
-use Rattle.definition.specs.Words.{is_empty}
-use Rattle.text_cursor.specs.declared.Cursor.{Cursor}
+use Rattle.definition.specs.Text.{Text, Lex}
+use Rattle.definition.specs.Words.{note_words, is_empty}
+use Rattle.definition.specs.Enums.{number}
+use Rattle.definition.specs.declared.Refusal.{Refusal}
+use denote.Ref.{Bor}
+use Rattle.text_cursor.specs.declared.Reader.{Reader}
+use Rattle.text_cursor.specs.Reads.{rest, Stands}
 use Rattle.text_words.specs.Table.{part}
-use Rattle.text_identifiers.specs.Identifiers.{Reaches, Lies}
+use Rattle.text_identifiers.specs.declared.Extent.{Extent}
+use Rattle.text_identifiers.specs.Identifiers.{Lies, Taken, Found, Missed}
 use Rattle.text_words.proofs.Parts.{part_length}
 use Rattle.text_identifiers.specs.Rounds.{Round, closes, takes, round, Got, got, finish, known_after, after, rounds, named}
+
+-- the outcome is the value a, and its rest begins at a place, `least` or later
+pub record Reaches {A : Type 0} (out : Out Text A) (a : A) (text : Text) (least at : ℕ) : Type 0 where
+  pub is : out ≡ ok a (drop at text)
+  pub inside : at ≤ length text
+  pub onward : least ≤ at
 
 long : (text : Text) (a b : ℕ) → a < b → b ≤ length text → 0 < length (part text a b)
 long text a b l h = rw (part_length text a b h) (omega arith)
@@ -104,18 +115,100 @@ module _ {S : Type 0} (count : S → ℕ) (note : Text → S → S) (punycoded :
         pub running_refused : {n : ℕ} → round known more punycoded empty (drop at text) ≡ refused n → named count note f subs punycoded first true (drop from text) ≡ refused n
         running_refused e = going_refused (g.same f h) g.inside k e
 
-        pub running_empty : {e : Bool} {c : Cursor} → e ≡ true → Reaches (round known more punycoded empty (drop at text)) (closes e) text (at + 1) c →
+        pub running_empty : {e : Bool} {c : ℕ} → e ≡ true → Reaches (round known more punycoded empty (drop at text)) (closes e) text (at + 1) c →
             named count note f subs punycoded first true (drop from text) ≡ refused 9
         running_empty z r = going_empty (g.same f h) g.inside k z r.is
 
-        pub running_closed : {e : Bool} {c : Cursor} → e ≡ false → Reaches (round known more punycoded empty (drop at text)) (closes e) text (at + 1) c →
+        pub running_closed : {e : Bool} {c : ℕ} → e ≡ false → Reaches (round known more punycoded empty (drop at text)) (closes e) text (at + 1) c →
             Reaches (named count note f subs punycoded first true (drop from text)) (got false words) text (from + 1) c
         running_closed z r = record { is = going_closed (g.same f h) g.inside k z r.is; inside = r.inside; onward = omega (arith, g.onward, r.onward) }
 
         pub running_last : {e m : Bool} {a b : ℕ} {words' : S} → m ≡ false → Lies (round known more punycoded empty (drop at text)) (takes e m) text at a b →
-            words' ≡ known_after note punycoded (part text a b) words → Reaches (named count note f subs punycoded first true (drop from text)) (got false words') text (from + 1) (record { at = b })
+            words' ≡ known_after note punycoded (part text a b) words → Reaches (named count note f subs punycoded first true (drop from text)) (got false words') text (from + 1) b
         running_last {a = a} {b = b} z l w = record {
           is = going_last (g.same f h) g.inside k (long text a b l.some l.inside) w z l.is;
           inside = l.inside;
           onward = omega (arith, g.onward, l.onward, l.some);
         }
+
+-- OVER A READER, and what is known of the words
+module _ {A : Type 0} (m : Lex A) (old mid new : Reader) (t : mid.text ≡ old.text) where
+  pub reached : {a : A} → Stands (m (rest mid)) a 1 mid new → Reaches (m (drop mid.at old.text.now)) a old.text.now (mid.at + 1) new.at
+  reached {a} h = subst (λ (s : Bor (List ℕ)). Reaches (m (drop mid.at s.now)) a s.now (mid.at + 1) new.at) t (record {
+    is = h.is ∙ ap (λ (s : Bor (List ℕ)). ok a (drop new.at s.now)) h.text;
+    inside = subst (λ (s : Bor (List ℕ)). new.at ≤ length s.now) h.text h.inside;
+    onward = h.onward;
+  })
+
+  pub lain : {f : Name → A} {e : Extent} → Taken (m (rest mid)) f mid new e → Lies (m (drop mid.at old.text.now)) f old.text.now mid.at e.from e.to
+  lain {f} {e} h = subst (λ (s : Bor (List ℕ)). Lies (m (drop mid.at s.now)) f s.now mid.at e.from e.to) t h.lies
+
+pub standing : {A : Type 0} {o : Out Text A} {a : A} {old new : Reader} → new.text ≡ old.text → Reaches o a old.text.now (old.at + 1) new.at → Stands o a 1 old new
+standing {a = a} {new = new} t h = record {
+  is = h.is ∙ ap (λ (s : Bor (List ℕ)). ok a (drop new.at s.now)) (sym t);
+  text = t;
+  inside = subst (λ (s : Bor (List ℕ)). new.at ≤ length s.now) (sym t) h.inside;
+  onward = h.onward;
+}
+
+-- after a literal the words are noted, unless it is punycode
+module _ {S : Type 0} (stands : S → List Name → Type 0) {punycoded : Bool} {known known' : S} (slice : Name) where
+  pub after_noted : {noted : S} → punycoded ≡ false → known' ≡ noted → ((ws : List Name) → stands known ws → stands noted (note_words slice ws)) →
+      (ws : List Name) → stands known ws → stands known' (known_after note_words punycoded slice ws)
+  after_noted p e h ws k = subst (λ (b : Bool). stands known' (known_after note_words b slice ws)) (sym p) (subst (λ (s : S). stands s (note_words slice ws)) (sym e) (h ws k))
+
+  pub after_kept : punycoded ≡ true → known' ≡ known → (ws : List Name) → stands known ws → stands known' (known_after note_words punycoded slice ws)
+  after_kept p e ws k = subst (λ (b : Bool). stands known' (known_after note_words b slice ws)) (sym p) (subst (λ (s : S). stands s ws) (sym e) k)
+
+module _ {S : Type 0} (stands : S → List Name → Type 0) (punycoded subs : Bool) (old : Reader) (first : List Name) where
+  -- the rounds before `at` have been made, and what is known stands for the words
+  pub record Tracked (known : S) (at : ℕ) (more empty : Bool) : Type 0 where
+    pub words : List Name
+    pub met : stands known words
+    pub run : Running length note_words punycoded old.text.now first subs old.at at words more empty
+
+  pub tracked_first : (known : S) → stands known first → old.at ≤ length old.text.now → Tracked known old.at subs true
+  tracked_first known h i = record { words = first; met = h; run = running_first length note_words punycoded old.text.now first subs old.at i }
+
+  abbrev Outcome : ℕ → Out Text (Got (List Name))
+  Outcome f = named length note_words f subs punycoded first true (rest old)
+
+  module _ {known : S} (mid new : Reader) {more empty : Bool} (t : mid.text ≡ old.text) (g : Tracked known mid.at more empty) {n : ℕ} (k : n ≡ length g.words) where
+    abbrev Step : Lex Round
+    Step = round n more punycoded empty
+
+    -- what is known after a literal
+    abbrev pub After : S → Extent → Type 0
+    After known' e = (ws : List Name) → stands known ws → stands known' (known_after note_words punycoded (part old.text.now e.from e.to) ws)
+
+    pub tracked_next : {known' : S} {b : Bool} {e : Extent} {s : Bool} → s ≡ true → Taken (Step (rest mid)) (takes b s) mid new e → After known' e → Tracked known' new.at true false
+    tracked_next {known'} {e = e} z h a = record {
+      words = known_after note_words punycoded (part old.text.now e.from e.to) g.words;
+      met = a g.words g.met;
+      run = subst (λ (i : ℕ). Running length note_words punycoded old.text.now first subs old.at i (known_after note_words punycoded (part old.text.now e.from e.to) g.words) true false) (sym h.here)
+          (running_next length note_words punycoded old.text.now g.run k z (lain Step old mid new t h) refl);
+    }
+
+    module _ (f : ℕ) (fuel : length old.text.now < old.at + f) where
+      pub tracked_refused : {x : Refusal} → Step (rest mid) ≡ refused (number x) → Missed (stands known) (Outcome f) x
+      tracked_refused e = record {
+        words = g.words;
+        met = g.met;
+        is = running_refused length note_words punycoded old.text.now g.run k f fuel (ap (λ (s : Bor (List ℕ)). Step (drop mid.at s.now)) (sym t) ∙ e);
+      }
+
+      pub tracked_empty : {b : Bool} → b ≡ true → Stands (Step (rest mid)) (closes b) 1 mid new → Missed (stands known) (Outcome f) Refusal.Spelling
+      unfolding number
+      tracked_empty z h = record { words = g.words; met = g.met; is = running_empty length note_words punycoded old.text.now g.run k f fuel z (reached Step old mid new t h) }
+
+      pub tracked_closed : {b : Bool} → b ≡ false → Stands (Step (rest mid)) (closes b) 1 mid new → Found (stands known) (Outcome f) old new
+      tracked_closed z h = record { words = g.words; met = g.met; is = standing (h.text ∙ t) (running_closed length note_words punycoded old.text.now g.run k f fuel z (reached Step old mid new t h)) }
+
+      pub tracked_last : {known' : S} {b : Bool} {e : Extent} {s : Bool} → s ≡ false → Taken (Step (rest mid)) (takes b s) mid new e → After known' e → Found (stands known') (Outcome f) old new
+      tracked_last {e = e} z h a = record {
+        words = known_after note_words punycoded (part old.text.now e.from e.to) g.words;
+        met = a g.words g.met;
+        is = standing (h.text ∙ t)
+            (subst (λ (i : ℕ). Reaches (Outcome f) (got false (known_after note_words punycoded (part old.text.now e.from e.to) g.words)) old.text.now (old.at + 1) i) (sym h.here)
+            (running_last length note_words punycoded old.text.now g.run k f fuel z (lain Step old mid new t h) refl));
+      }

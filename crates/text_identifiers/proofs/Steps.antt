@@ -2,29 +2,29 @@
 -- nothing.
 use mathlib.Core.Path.{◌≡◌, refl, sym, ap, subst, ◌∙◌}
 use mathlib.Core.Bool.{Bool, true, false, ◌&&◌}
+use mathlib.Core.List.{List, [], ◌∷◌}
 use Prim.Native.Nat.{ℕ, ◌+◌, ◌-◌, ◌≤◌, ◌<◌}
 use native.Mathlib.Omega.{arith}
 use borrow.Author.Tests.{lt-ltb, le-ltb, le-leb, lt-leb, leb-true}
 use lib.Dec.{leb}
-use lib.ListN.{length, get_or, drop, length-drop}
+use lib.ListN.{length, drop, length-drop}
 use lib.Seq.{drop-drop}
 use Rattle.definition.specs.Base.{Name, Out, ok, refused, is, lower, upper, and_then}
-use Rattle.definition.specs.Text.{Text, next_if, natural, well_formed}
+use Rattle.definition.specs.Text.{Text, Lex, next_if, natural, well_formed}
 use Rattle.definition.specs.Words.{take_bytes, literal}
-use Rattle.definition.specs.Check.{Spelled, spelled, word_letters}
-use Rattle.definition.specs.Enums.{number}
+use Rattle.definition.specs.Check.{spelled, word_letters}
 use Rattle.definition.specs.declared.Refusal.{Refusal}
-use Rattle.text_cursor.specs.declared.Cursor.{Cursor}
-use Rattle.text_cursor.proofs.Steps.{front, ended}
+use Rattle.std.specs.Prelude.{Result, Ok, Err}
+use Rattle.std.specs.Result.{IsErrAnd}
+use denote.Ref.{Bor}
+use Rattle.text_cursor.specs.declared.Reader.{Reader}
+use Rattle.text_cursor.specs.Reads.{rest, Stands, Takes}
 use Rattle.text_words.specs.Table.{part}
 use Rattle.text_identifiers.specs.Rounds.{Round, closes, takes, closing, whole_slice}
-use Rattle.text_identifiers.specs.Identifiers.{Reaches, Lies, Lettered, Extends, Pieced}
-use Rattle.text_identifiers.specs.declared.Letters.{Letters}
-use Rattle.text_identifiers.specs.declared.Letters.TheVariants as Letters
+use Rattle.text_identifiers.specs.Identifiers.{Lies, Taken, Extends, Pieced}
 use Rattle.text_identifiers.specs.declared.Extent.{Extent}
-use Rattle.text_identifiers.specs.declared.Extent.TheVariants as Extent
+use Rattle.text_identifiers.specs.declared.Letters.{Letters}
 use Rattle.text_identifiers.specs.declared.Piece.{Piece}
-use Rattle.text_identifiers.specs.declared.Piece.TheVariants as Piece
 
 -- LETTERS
 and_left : (a b : Bool) → (a && b) ≡ true → a ≡ true
@@ -37,37 +37,38 @@ lower_low b e = leb-true 97 b (and_left (leb 97 b) (leb b 122) e)
 pub upper_low : (b : ℕ) → upper b ≡ true → 65 ≤ b
 upper_low b e = leb-true 65 b (and_left (leb 65 b) (leb b 90) e)
 
-module _ (text : Text) (known : ℕ) (empty : Bool) (at : ℕ) where
-  pub letters_none : length text ≤ at → word_letters known empty (drop at text) ≡ ok (spelled empty true) (drop at text)
+module _ (known : ℕ) (empty : Bool) where
+  pub letters_none : {t : Text} → t ≡ [] → word_letters known empty t ≡ ok (spelled empty true) t
   unfolding word_letters
-  letters_none h = ap (word_letters known empty) (ended text at h) ∙ ap (ok (spelled empty true)) (sym (ended text at h))
+  letters_none e = rw e refl
 
-  module _ (h : at < length text) where
-    pub letters_stop : lower (get_or text at 0) ≡ false → upper (get_or text at 0) ≡ false → word_letters known empty (drop at text) ≡ ok (spelled empty true) (drop at text)
+  module _ {t u : Text} {b : ℕ} (e : t ≡ b ∷ u) where
+    pub letters_stop : lower b ≡ false → upper b ≡ false → word_letters known empty t ≡ ok (spelled empty true) t
     unfolding word_letters
-    letters_stop l u = rw (front text at h, word_letters, l, u)
+    letters_stop l h = rw (e, word_letters, l, h) refl
 
-    pub letters_last : lower (get_or text at 0) ≡ false → upper (get_or text at 0) ≡ true → get_or text at 0 - 65 < known → word_letters known empty (drop at text) ≡ ok (spelled false false) (drop (at + 1) text)
+    pub letters_last : lower b ≡ false → upper b ≡ true → b - 65 < known → word_letters known empty t ≡ ok (spelled false false) u
     unfolding word_letters
-    letters_last l u k = rw (front text at h, word_letters, l, u, lt-ltb _ _ k)
+    letters_last l h k = rw (e, word_letters, l, h, lt-ltb _ _ k) refl
 
-    pub letters_last_unknown : lower (get_or text at 0) ≡ false → upper (get_or text at 0) ≡ true → known ≤ get_or text at 0 - 65 → word_letters known empty (drop at text) ≡ refused 9
+    pub letters_last_unknown : lower b ≡ false → upper b ≡ true → known ≤ b - 65 → word_letters known empty t ≡ refused 9
     unfolding word_letters
-    letters_last_unknown l u k = rw (front text at h, word_letters, l, u, le-ltb _ _ k)
+    letters_last_unknown l h k = rw (e, word_letters, l, h, le-ltb _ _ k) refl
 
-    pub letters_more : lower (get_or text at 0) ≡ true → get_or text at 0 - 97 < known → word_letters known empty (drop at text) ≡ word_letters known false (drop (at + 1) text)
+    pub letters_more : lower b ≡ true → b - 97 < known → word_letters known empty t ≡ word_letters known false u
     unfolding word_letters
-    letters_more l k = rw (front text at h, word_letters, l, lt-ltb _ _ k)
+    letters_more l k = rw (e, word_letters, l, lt-ltb _ _ k) refl
 
-    pub letters_unknown : lower (get_or text at 0) ≡ true → known ≤ get_or text at 0 - 97 → word_letters known empty (drop at text) ≡ refused 9
+    pub letters_unknown : lower b ≡ true → known ≤ b - 97 → word_letters known empty t ≡ refused 9
     unfolding word_letters
-    letters_unknown l k = rw (front text at h, word_letters, l, le-ltb _ _ k)
+    letters_unknown l k = rw (e, word_letters, l, le-ltb _ _ k) refl
 
--- the loop of `word_letters`: the letters before `at` are known words
-pub record Spelling (text : Text) (known : ℕ) (first : Bool) (from : ℕ) (empty : Bool) (at : ℕ) : Type 0 where
-  pub inside : at ≤ length text
-  pub onward : from ≤ at
-  pub same : word_letters known first (drop from text) ≡ word_letters known empty (drop at text)
+-- the loop of `word_letters`: the letters before the place are known words
+pub record Spelling (known : ℕ) (first : Bool) (old new : Reader) (empty : Bool) : Type 0 where
+  pub text : new.text ≡ old.text
+  pub inside : new.at ≤ length new.text.now
+  pub onward : old.at ≤ new.at
+  pub same : word_letters known first (rest old) ≡ word_letters known empty (rest new)
 
 -- LITERALS
 module _ (text : Text) (at n : ℕ) where
@@ -115,34 +116,77 @@ module _ (t : Text) where
     closing_takes e = rw e
 
 -- AFTER A CALL
-pub extends_is : (text : Text) {o o' : Out Text Name} {least least' : ℕ} → o ≡ o' → least ≤ least' → (r : Extent) → Extends o' text least' r → Extends o text least r
-extends_is text e l (Extent.Read a b) h = record { is = e ∙ h.is; onward = omega arith; some = h.some; inside = h.inside }
-extends_is text e l (Extent.Refused f) h = e ∙ h
+-- a byte that was taken or left
+pub record Looked (m : Lex Bool) (old new : Reader) (b : Bool) : Type 0 where
+  pub is : m (rest old) ≡ ok b (rest new)
+  pub text : new.text ≡ old.text
+  pub inside : new.at ≤ length new.text.now
+  pub onward : old.at ≤ new.at
 
-pub pieced_is : (text : Text) {o o' : Out Text Round} {least least' : ℕ} → o ≡ o' → least ≤ least' → (r : Piece) → Pieced o' text least' r → Pieced o text least r
-pieced_is text e l (Piece.Closed b c) h = record { is = e ∙ h.is; inside = h.inside; onward = omega arith }
-pieced_is text e l (Piece.Literal b m x y) h = record { is = e ∙ h.is; onward = omega arith; some = h.some; inside = h.inside }
-pieced_is text e l (Piece.Refused f) h = e ∙ h
+pub looked : {m : Lex Bool} {old new : Reader} (b : Bool) → old.at ≤ length old.text.now → Takes m old new b → Looked m old new b
+looked true i h = record { is = h.is; text = h.text; inside = h.inside; onward = omega (arith, h.onward) }
+looked false i h = record { is = h.is; text = h.text; inside = rw (h.text, h.here) i; onward = omega (arith, h.here) }
 
--- what the result says that a match took apart
-module _ (text : Text) (from : ℕ) where
-  pub extent_read : {o : Out Text Name} {r : Extent} {a b : ℕ} → r ≡ Extent.Read a b → Extends o text from r → Lies o (λ s. s) text from a b
-  extent_read {o} e h = subst (Extends o text from) e h
+above : (n : ℕ) → (n ≡ 0 → ⊥) → 0 < n
+above n z = omega (arith, z)
 
-  pub extent_refused : {o : Out Text Name} {r : Extent} {f : Refusal} → r ≡ Extent.Refused f → Extends o text from r → o ≡ refused (number f)
-  extent_refused {o} e h = subst (Extends o text from) e h
+-- behind a length, and the `_` that may follow it
+pub record Behind (n : ℕ) (punycoded : Bool) (old mid : Reader) : Type 0 where
+  pub is : literal punycoded (rest old) ≡ whole_slice n (rest mid)
+  pub text : mid.text ≡ old.text
+  pub inside : mid.at ≤ length mid.text.now
+  pub onward : old.at ≤ mid.at
 
-  pub letters_read : {o : Out Text Spelled} {r : Letters} {e m : Bool} {c : Cursor} → r ≡ Letters.Read e m c → Lettered o text from r → Reaches o (spelled e m) text from c
-  letters_read {o} e h = subst (Lettered o text from) e h
+module _ {n : ℕ} {punycoded : Bool} {old next mid : Reader} (h : Stands (natural (rest old)) n 1 old next) (z : n ≡ 0 → ⊥) where
+  pub behind_mark : punycoded ≡ true → {new : Reader} (b : Bool) → Takes (next_if (is "_")) next new b → mid ≡ new → Behind n punycoded old mid
+  behind_mark p {new} b t e =
+      let l = looked b h.inside t in
+      subst (Behind n punycoded old) (sym e) (record {
+        is = ap (λ (q : Bool). literal q (rest old)) p ∙ literal_punycoded (rest old) (above n z) h.is l.is;
+        text = l.text ∙ h.text;
+        inside = l.inside;
+        onward = omega (arith, l.onward, h.onward);
+      })
 
-  pub letters_refused : {o : Out Text Spelled} {r : Letters} {f : Refusal} → r ≡ Letters.Refused f → Lettered o text from r → o ≡ refused (number f)
-  letters_refused {o} e h = subst (Lettered o text from) e h
+  pub behind_length : punycoded ≡ false → mid ≡ next → Behind n punycoded old mid
+  behind_length p e = subst (Behind n punycoded old) (sym e) (record {
+    is = ap (λ (q : Bool). literal q (rest old)) p ∙ literal_plain (rest old) (above n z) h.is;
+    text = h.text;
+    inside = h.inside;
+    onward = omega (arith, h.onward);
+  })
 
-  pub piece_closed : {o : Out Text Round} {r : Piece} {e : Bool} {c : Cursor} → r ≡ Piece.Closed e c → Pieced o text from r → Reaches o (closes e) text (from + 1) c
-  piece_closed {o} e h = subst (Pieced o text from) e h
+-- what is read from `mid` on was read from `old` on
+module _ {A : Type 0} {f : Name → A} {o o' : Out Text A} {old mid new : Reader} {e : Extent} where
+  pub taken_on : o ≡ o' → mid.text ≡ old.text → old.at ≤ mid.at → Taken o' f mid new e → Taken o f old new e
+  taken_on q t l h = record {
+    lies = subst (λ (s : Bor (List ℕ)). Lies o f s.now old.at e.from e.to) t (record { is = q ∙ h.lies.is; onward = omega (arith, h.lies.onward); some = h.lies.some; inside = h.lies.inside });
+    text = h.text ∙ t;
+    here = h.here;
+  }
 
-  pub piece_literal : {o : Out Text Round} {r : Piece} {e m : Bool} {a b : ℕ} → r ≡ Piece.Literal e m a b → Pieced o text from r → Lies o (takes e m) text from a b
-  piece_literal {o} e h = subst (Pieced o text from) e h
+pub extends_on : (m m' : Lex Name) (old mid new : Reader) (r : Result Extent Refusal) → m (rest old) ≡ m' (rest mid) → mid.text ≡ old.text → old.at ≤ mid.at → Extends m' mid new r → Extends m old new r
+extends_on m m' old mid new (Ok e) q t l h = taken_on q t l h
+extends_on m m' old mid new (Err f) q t l h = q ∙ h
 
-  pub piece_refused : {o : Out Text Round} {r : Piece} {f : Refusal} → r ≡ Piece.Refused f → Pieced o text from r → o ≡ refused (number f)
-  piece_refused {o} e h = subst (Pieced o text from) e h
+pub pieced_on : (m m' : Lex Round) (old mid new : Reader) (r : Result Piece Refusal) → m (rest old) ≡ m' (rest mid) → mid.text ≡ old.text → old.at ≤ mid.at → Pieced m' mid new r → Pieced m old new r
+pieced_on m m' old mid new (Ok (Piece.Closed e)) q t l h = record { is = q ∙ h.is; text = h.text ∙ t; inside = h.inside; onward = omega (arith, h.onward) }
+pieced_on m m' old mid new (Ok (Piece.Literal s e)) q t l h = taken_on q t l h
+pieced_on m m' old mid new (Err f) q t l h = q ∙ h
+
+-- a literal after a round's letters
+pub taken_as : {A B : Type 0} {f : Name → A} (g : A → B) {o : Out Text A} {o' : Out Text B} {old new : Reader} {e : Extent} → o' ≡ and_then o (λ a u. ok (g a) u) → Taken o f old new e → Taken o' (λ s. g (f s)) old new e
+taken_as g q h = record { lies = record { is = q ∙ ap (λ x. and_then x (λ a u. ok (g a) u)) h.lies.is; onward = h.lies.onward; some = h.lies.some; inside = h.lies.inside }; text = h.text; here = h.here }
+
+-- what `?` hands on
+pub refused_as : {X : Type 0} {f : Refusal} (r : Result X Refusal) → IsErrAnd r (λ g. g ≡ f) → r ≡ Err f
+refused_as (Ok x) h = absurd h
+refused_as (Err g) h = ap (λ x. Err x) h
+
+-- what a match took apart
+module _ (m : Lex Round) (old new : Reader) where
+  pub piece_closed : (p : Piece) {e : Bool} → p ≡ Piece.Closed e → Pieced m old new (Ok p) → Stands (m (rest old)) (closes e) 1 old new
+  piece_closed p q h = subst (λ (x : Piece). Pieced m old new (Ok x)) q h
+
+  pub piece_literal : (p : Piece) {l : Letters} {e : Extent} → p ≡ Piece.Literal l e → Pieced m old new (Ok p) → Taken (m (rest old)) (takes l.empty l.more) old new e
+  piece_literal p q h = subst (λ (x : Piece). Pieced m old new (Ok x)) q h

@@ -1,34 +1,22 @@
--- What the results over a cursor say about the definition's outcomes. Assumes nothing. Every
--- relation has the arguments: the outcome on the text from the cursor on, the whole text, the place
--- of the cursor, the result.
-use Rattle.std.specs.Prelude.{◌≡◌, false, List, ℕ, ◌+◌, ◌≤◌, ◌<◌, length, drop}
+-- What the results over a reader say about the definition's steps. Assumes nothing. A relation over
+-- a step has the arguments: the step or its outcome, the reader before and after it, the result.
+use Rattle.std.specs.Prelude.{◌≡◌, false, List, ℕ, ◌≤◌, ◌<◌, length, drop, Result, Ok, Err}
 use Rattle.definition.specs.Base.{Name, Out, ok, refused, is}
-use Rattle.definition.specs.Text.{Text, next_if}
+use Rattle.definition.specs.Text.{Text, Lex, next_if}
 use Rattle.definition.specs.Words as W
 use Rattle.definition.specs.Check as C
 use Rattle.definition.specs.Enums.{number}
-use Rattle.text_cursor.specs.declared.Cursor.{Cursor}
-use Rattle.text_words.specs.Table.{part, table, Fitting}
+use Rattle.definition.specs.declared.Refusal.{Refusal}
+use Rattle.text_cursor.specs.declared.Reader.{Reader}
+use Rattle.text_cursor.specs.Reads.{rest, Stands}
+use Rattle.text_words.specs.Table.{part, Words, table, Fitting}
 use Rattle.text_identifiers.specs.Rounds.{Round, closes, takes, Got, got}
-use Rattle.text_words.specs.declared.Words.{Words}
 use Rattle.text_identifiers.specs.declared.Letters.{Letters}
-use Rattle.text_identifiers.specs.declared.Letters.TheVariants as Letters
 use Rattle.text_identifiers.specs.declared.Extent.{Extent}
-use Rattle.text_identifiers.specs.declared.Extent.TheVariants as Extent
 use Rattle.text_identifiers.specs.declared.Piece.{Piece}
-use Rattle.text_identifiers.specs.declared.Piece.TheVariants as Piece
-use Rattle.text_identifiers.specs.declared.NameRead.{NameRead}
-use Rattle.text_identifiers.specs.declared.NameRead.TheVariants as NameRead
-use Rattle.text_identifiers.specs.declared.Identified.{Identified}
-use Rattle.text_identifiers.specs.declared.CountRead.{CountRead}
-use Rattle.text_identifiers.specs.declared.CountRead.TheVariants as CountRead
 
--- the outcome is the value a, and c is the place in the text where the outcome's rest begins,
--- `least` or later
-pub record Reaches {A : Type 0} (out : Out Text A) (a : A) (text : Text) (least : ℕ) (c : Cursor) : Type 0 where
-  pub is : out ≡ ok a (drop c.at text)
-  pub inside : c.at ≤ length text
-  pub onward : least ≤ c.at
+abbrev pub spelled : Letters → C.Spelled
+spelled l = C.spelled l.empty l.more
 
 -- the outcome is f of the bytes from one place to another, which are one or more, and its rest is
 -- what follows them
@@ -38,56 +26,56 @@ pub record Lies {A : Type 0} (out : Out Text A) (f : Name → A) (text : Text) (
   pub some : from < to
   pub inside : to ≤ length text
 
+-- the same, where the reader is then behind those bytes
+pub record Taken {A : Type 0} (out : Out Text A) (f : Name → A) (old new : Reader) (e : Extent) : Type 0 where
+  pub lies : Lies out f old.text.now old.at e.from e.to
+  pub text : new.text ≡ old.text
+  pub here : new.at ≡ e.to
+
 -- the byte at a place is not `0`
 pub record NoZero (text : Text) (at : ℕ) : Type 0 where
   pub is : next_if (is "0") (drop at text) ≡ ok false (drop at text)
 
-abbrev pub Lettered : Out Text C.Spelled → Text → ℕ → Letters → Type 0
-Lettered out text from (Letters.Read e m c) = Reaches out (C.spelled e m) text from c
-Lettered out text from (Letters.Refused f) = out ≡ refused (number f)
+abbrev pub Extends : Lex Name → Reader → Reader → Result Extent Refusal → Type 0
+Extends m old new (Ok e) = Taken (m (rest old)) (λ s. s) old new e
+Extends m old new (Err f) = m (rest old) ≡ refused (number f)
 
-abbrev pub Extends : Out Text Name → Text → ℕ → Extent → Type 0
-Extends out text from (Extent.Read a b) = Lies out (λ s. s) text from a b
-Extends out text from (Extent.Refused f) = out ≡ refused (number f)
+abbrev pub Pieced : Lex Round → Reader → Reader → Result Piece Refusal → Type 0
+Pieced m old new (Ok (Piece.Closed e)) = Stands (m (rest old)) (closes e) 1 old new
+Pieced m old new (Ok (Piece.Literal l e)) = Taken (m (rest old)) (takes l.empty l.more) old new e
+Pieced m old new (Err f) = m (rest old) ≡ refused (number f)
 
-abbrev pub Pieced : Out Text Round → Text → ℕ → Piece → Type 0
-Pieced out text from (Piece.Closed e c) = Reaches out (closes e) text (from + 1) c
-Pieced out text from (Piece.Literal e m a b) = Lies out (takes e m) text from a b
-Pieced out text from (Piece.Refused f) = out ≡ refused (number f)
+-- what is known after an identifier stands for these words
+pub record Found (stands : List Name → Type 0) (out : Out Text (Got (List Name))) (old new : Reader) : Type 0 where
+  pub words : List Name
+  pub met : stands words
+  pub is : Stands out (got false words) 1 old new
 
--- the words known after an identifier, as a table
-abbrev pub Got_table : Out Text (Got (List Name)) → Text → ℕ → NameRead → Words → Type 0
-Got_table out text from (NameRead.Read c) w = Reaches out (got false (table text w)) text (from + 1) c
-Got_table out text from (NameRead.Refused f) w = out ≡ refused (number f)
+pub record Missed (stands : List Name → Type 0) (out : Out Text (Got (List Name))) (f : Refusal) : Type 0 where
+  pub words : List Name
+  pub met : stands words
+  pub is : out ≡ refused (number f)
 
--- and as a count
-abbrev pub Got_count : Out Text (Got ℕ) → Text → ℕ → CountRead → Type 0
-Got_count out text from (CountRead.Read n c) = Reaches out (got false n) text (from + 1) c
-Got_count out text from (CountRead.Refused f) = out ≡ refused (number f)
+abbrev pub Finds : (List Name → Type 0) → Out Text (Got (List Name)) → Reader → Reader → Result Unit Refusal → Type 0
+Finds stands out old new (Ok u) = Found stands out old new
+Finds stands out old new (Err f) = Missed stands out f
 
 -- AN IDENTIFIER
 -- it is read: some name, after which the words are those of the table w
-pub record Reads (out : Out Text W.Identified) (text : Text) (from : ℕ) (w : Words) (c : Cursor) : Type 0 where
+pub record Named (out : Out Text W.Identified) (old new : Reader) (w : Words) : Type 0 where
   pub name : Name
-  pub is : out ≡ ok (W.identified name (table text w)) (drop c.at text)
-  pub onward : from < c.at
-  pub inside : c.at ≤ length text
+  pub is : Stands out (W.identified name (table old.text.now w)) 1 old new
 
-abbrev pub Answered : Out Text W.Identified → Text → ℕ → NameRead → Words → Type 0
-Answered out text from (NameRead.Read c) w = Reads out text from w c
-Answered out text from (NameRead.Refused f) w = out ≡ refused (number f)
+abbrev pub Answered : Out Text W.Identified → Reader → Reader → Words → Result Unit Refusal → Type 0
+Answered out old new w (Ok u) = Named out old new w
+Answered out old new w (Err f) = out ≡ refused (number f)
 
 -- the result of an identifier; whether it is read or refused, the table is inside the text
-pub record Identifies (out : Out Text W.Identified) (text : Text) (from : ℕ) (r : Identified) : Type 0 where
-  pub answer : Answered out text from r.read r.words
-  pub fitting : Fitting text r.words
+pub record Identifies (out : Out Text W.Identified) (old new : Reader) (w : Words) (r : Result Unit Refusal) : Type 0 where
+  pub answer : Answered out old new w r
+  pub fitting : Fitting old.text.now w
 
 -- the result where words are a count
-pub record Counts (out : Out Text C.Identified) (text : Text) (from n : ℕ) (c : Cursor) : Type 0 where
-  pub is : out ≡ ok (C.identified false n) (drop c.at text)
-  pub onward : from < c.at
-  pub inside : c.at ≤ length text
-
-abbrev pub Counted : Out Text C.Identified → Text → ℕ → CountRead → Type 0
-Counted out text from (CountRead.Read n c) = Counts out text from n c
-Counted out text from (CountRead.Refused f) = out ≡ refused (number f)
+abbrev pub Counted : Out Text C.Identified → Reader → Reader → ℕ → Result Unit Refusal → Type 0
+Counted out old new n (Ok u) = Stands out (C.identified false n) 1 old new
+Counted out old new n (Err f) = out ≡ refused (number f)

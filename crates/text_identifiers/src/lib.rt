@@ -1,321 +1,205 @@
-// Identifiers, with the words as a table or as a count. The whole text is well-formed.
+// Identifiers, with what is known of the words as a table or as a count. The whole text is
+// well-formed.
 #![tactic(auto)]
 
-ghost use Rattle.std.specs.Prelude.{◌≡◌, true, false, ℕ, ◌+◌, ◌-◌, ◌≤◌, ◌<◌, length, drop};
+ghost use Rattle.std.specs.Prelude.{◌≡◌, true, false, ℕ, List, ◌+◌, ◌≤◌, ◌<◌, length};
+ghost use Rattle.definition.specs.Base.{Name};
 ghost use Rattle.definition.specs.Text as Text;
 ghost use Rattle.definition.specs.Words as W;
 ghost use Rattle.definition.specs.Check as C;
-ghost use Rattle.text_words.specs.Table.{part, table, Fitting, Holds};
-ghost use Rattle.text_identifiers.specs.Rounds.{closing, round, whole_slice, known_after, named};
-ghost use Rattle.text_identifiers.specs.Identifiers.{NoZero, Lettered, Extends, Pieced, Got_table, Got_count, Identifies, Counted};
+ghost use Rattle.text_cursor.specs.Reads.{rest, Reads};
+ghost use Rattle.text_words.specs.Table.{table, Fitting};
+ghost use Rattle.text_identifiers.specs.Rounds.{closing, round, whole_slice, named, identifier_of};
+ghost use Rattle.text_identifiers.specs.Identifiers.{NoZero, spelled, Extends, Pieced, Finds, Identifies, Counted};
 
 use definition::Refusal;
-use text_cursor::{Cursor, Number, is_lower, is_upper, natural, next_if};
+use text_cursor::{Reader, is_lower, is_upper};
 use text_utf8::between_characters;
-use text_words::{Words, count_words, note_words};
+use text_words::{Known, Words, note};
 
-// The result of word letters: whether the name is empty, whether letters may follow, and the next
-// cursor.
+// The result of word letters: whether the name is empty, and whether letters may follow.
 #[derive(Clone, Copy)]
-enum Letters {
-    Read(bool, bool, Cursor),
-    Refused(Refusal),
+struct Letters {
+    empty: bool,
+    more: bool,
 }
 
 // The position of the bytes of a literal: text[from..to].
-#[derive(Clone, Copy)]
-pub enum Extent {
-    Read(usize, usize),
-    Refused(Refusal),
+#[derive(Clone, Copy, Debug, PartialEq, Eq)]
+pub struct Extent {
+    pub from: usize,
+    pub to: usize,
 }
 
 // The result of one round of an identifier: the closing `0`, with whether the name is empty; or a
-// literal, with whether the name before it is empty, whether letters may follow, and its position.
+// literal, with the letters before it.
 #[derive(Clone, Copy)]
 enum Piece {
-    Closed(bool, Cursor),
-    Literal(bool, bool, usize, usize),
-    Refused(Refusal),
-}
-
-#[derive(Clone, Copy)]
-pub enum NameRead {
-    Read(Cursor),
-    Refused(Refusal),
-}
-
-// An identifier, and the words known after it.
-#[derive(Clone, Copy)]
-pub struct Identified {
-    pub read: NameRead,
-    pub words: Words,
-}
-
-#[derive(Clone, Copy)]
-pub enum CountRead {
-    Read(usize, Cursor),
-    Refused(Refusal),
+    Closed(bool),
+    Literal(Letters, Extent),
 }
 
 // Reads word letters: lower case letters, and a capital as the last. `first`: the name before them
 // is empty.
-fn word_letters(text: &[u8], c: Cursor, known: usize, first: bool) -> Letters
-    requires { c.at ≤ length text.now }
-    ensures { Lettered (C.word_letters known first (drop c.at text.now)) text.now c.at result }
+fn word_letters(text: &mut Reader, known: usize, first: bool) -> Result<Letters, Refusal>
+    requires { text.old.at ≤ length text.old.text.now }
+    ensures { Reads spelled 0 (C.word_letters known first) text.old text.new result }
 {
     let mut empty = first;
-    let mut at = c.at;
-    while at < text.len() {
-        let b = text[at];
-        if !is_lower(b) {
-            if !is_upper(b) {
-                return Letters::Read(empty, true, Cursor { at });
+    while let Some(b) = text.peek() {
+        if is_lower(b) {
+            if known <= usize::from(b - b'a') {
+                return Err(Refusal::Spelling);
             }
-            if known <= (b - 65) as usize {
-                return Letters::Refused(Refusal::Spelling);
+            text.at += 1;
+            empty = false;
+        } else if is_upper(b) {
+            if known <= usize::from(b - b'A') {
+                return Err(Refusal::Spelling);
             }
-            return Letters::Read(false, false, Cursor { at: at + 1 });
+            text.at += 1;
+            return Ok(Letters {
+                empty: false,
+                more: false,
+            });
+        } else {
+            return Ok(Letters { empty, more: true });
         }
-        if known <= (b - 97) as usize {
-            return Letters::Refused(Refusal::Spelling);
-        }
-        empty = false;
-        at += 1;
     }
-    Letters::Read(empty, true, Cursor { at })
+    Ok(Letters { empty, more: true })
 }
 
-// Returns the next n bytes, if they exist and are well-formed.
-fn bytes_of(text: &[u8], c: Cursor, n: usize) -> Extent
-    requires { (c.at ≤ length text.now) × (0 < n) × (Text.well_formed text.now ≡ true) }
-    ensures { Extends (whole_slice n (drop c.at text.now)) text.now c.at result }
+// Reads the next n bytes, if they exist and are well-formed.
+fn bytes_of(text: &mut Reader, n: usize) -> Result<Extent, Refusal>
+    requires { (text.old.at ≤ length text.old.text.now) × (0 < n) × (Text.well_formed text.old.text.now ≡ true) }
+    ensures { Extends (whole_slice n) text.old text.new result }
 {
-    let from = c.at;
-    if text.len() - from < n {
-        return Extent::Refused(Refusal::Spelling);
+    let from = text.at;
+    if text.text.len() - from < n {
+        return Err(Refusal::Spelling);
     }
     let to = from + n;
-    if between_characters(text, from, to) {
-        return Extent::Read(from, to);
+    if !between_characters(text.text, from, to) {
+        return Err(Refusal::Spelling);
     }
-    Extent::Refused(Refusal::Spelling)
+    text.at = to;
+    Ok(Extent { from, to })
 }
 
 // Reads a length and that many bytes.
-pub fn literal(text: &[u8], c: Cursor, punycoded: bool) -> Extent
-    requires { Text.well_formed text.now ≡ true }
-    ensures { Extends (W.literal punycoded (drop c.at text.now)) text.now c.at result }
+pub fn literal(text: &mut Reader, punycoded: bool) -> Result<Extent, Refusal>
+    requires { Text.well_formed text.old.text.now ≡ true }
+    ensures { Extends (W.literal punycoded) text.old text.new result }
 {
-    match natural(text, c) {
-        Number::Read(n, next) => {
-            if n == 0 {
-                return Extent::Refused(Refusal::Spelling);
-            }
-            if punycoded {
-                let passed = next_if(text, next, b'_');
-                let after = passed.next;
-                return bytes_of(text, after, n);
-            }
-            bytes_of(text, next, n)
-        }
-        Number::Refused(f) => Extent::Refused(f),
+    let n = text.natural()?;
+    if n == 0 {
+        return Err(Refusal::Spelling);
     }
+    if punycoded {
+        text.next_if(b'_');
+    }
+    bytes_of(text, n)
 }
 
 // Reads the closing `0` or a literal.
-fn close_or_take(text: &[u8], c: Cursor, punycoded: bool, empty: bool, more: bool) -> Piece
-    requires { (c.at ≤ length text.now) × (Text.well_formed text.now ≡ true) }
-    ensures { Pieced (closing punycoded empty more (drop c.at text.now)) text.now c.at result }
+fn close_or_take(text: &mut Reader, punycoded: bool, letters: Letters) -> Result<Piece, Refusal>
+    requires { (text.old.at ≤ length text.old.text.now) × (Text.well_formed text.old.text.now ≡ true) }
+    ensures { Pieced (closing punycoded letters.empty letters.more) text.old text.new result }
 {
-    let end = next_if(text, c, b'0');
-    let closed = end.taken;
-    let next = end.next;
-    if closed {
-        return Piece::Closed(empty, next);
+    if text.next_if(b'0') {
+        return Ok(Piece::Closed(letters.empty));
     }
-    match literal(text, next, punycoded) {
-        Extent::Read(from, to) => Piece::Literal(empty, more, from, to),
-        Extent::Refused(f) => Piece::Refused(f),
-    }
+    let bytes = literal(text, punycoded)?;
+    Ok(Piece::Literal(letters, bytes))
 }
 
 // Reads one round of an identifier, where `known` words are known.
-fn round_of(text: &[u8], c: Cursor, known: usize, subs: bool, punycoded: bool, empty: bool) -> Piece
-    requires { (c.at ≤ length text.now) × (Text.well_formed text.now ≡ true) }
-    ensures { Pieced (round known subs punycoded empty (drop c.at text.now)) text.now c.at result }
+fn round_of(
+    text: &mut Reader,
+    known: usize,
+    subs: bool,
+    punycoded: bool,
+    empty: bool,
+) -> Result<Piece, Refusal>
+    requires { (text.old.at ≤ length text.old.text.now) × (Text.well_formed text.old.text.now ≡ true) }
+    ensures { Pieced (round known subs punycoded empty) text.old text.new result }
 {
     if !subs {
-        return close_or_take(text, c, punycoded, empty, false);
+        return close_or_take(text, punycoded, Letters { empty, more: false });
     }
-    match word_letters(text, c, known, empty) {
-        Letters::Read(e, m, next) => close_or_take(text, next, punycoded, e, m),
-        Letters::Refused(f) => Piece::Refused(f),
-    }
+    let letters = word_letters(text, known, empty)?;
+    close_or_take(text, punycoded, letters)
 }
 
-// The table after a literal. A punycode name has no words.
-fn noted(text: &[u8], from: usize, to: usize, punycoded: bool, w: Words) -> Words
-    requires { (from ≤ to) × ((to ≤ length text.now) × ((length text.now ≤ 65535) × Fitting text.now w)) }
-    ensures { Holds text.now (known_after W.note_words punycoded (part text.now from to) (table text.now w)) w result }
+// Reads the rounds of an identifier, from the one at the place to the last. A punycode name has no
+// words.
+fn rounds_of<K: Known>(
+    text: &mut Reader,
+    known: &mut K,
+    subs: bool,
+    punycoded: bool,
+) -> Result<(), Refusal>
+    requires { (text.old.at ≤ length text.old.text.now) × (length text.old.text.now ≤ 65535) × (Text.well_formed text.old.text.now ≡ true) }
+    ensures { (words : List Name) → K.stands text.old.text.now known.old words → (fuel : ℕ) → length text.old.text.now < text.old.at + fuel → Finds (K.stands text.old.text.now known.new) (named length W.note_words fuel subs punycoded words true (rest text.old)) text.old text.new result }
 {
-    if punycoded {
-        return w;
-    }
-    note_words(text, from, to, w)
-}
-
-// Reads the rounds of an identifier, from the one at the cursor to the last.
-fn rounds_of(text: &[u8], c: Cursor, w: Words, subs: bool, punycoded: bool) -> Identified
-    requires { (c.at ≤ length text.now) × ((length text.now ≤ 65535) × Fitting text.now w) × (Text.well_formed text.now ≡ true) }
-    ensures { ((fuel : ℕ) → length text.now < c.at + fuel → Got_table (named length W.note_words fuel subs punycoded (table text.now w) true (drop c.at text.now)) text.now c.at result.read result.words) × Fitting text.now result.words }
-{
-    let mut at = c.at;
-    let mut known = w;
     let mut more = subs;
     let mut empty = true;
     loop {
-        let count = known.count;
-        match round_of(text, Cursor { at }, count, more, punycoded, empty) {
-            Piece::Closed(e, next) => {
+        match round_of(text, known.count(), more, punycoded, empty)? {
+            Piece::Closed(e) => {
                 if e {
-                    return Identified {
-                        read: NameRead::Refused(Refusal::Spelling),
-                        words: known,
-                    };
+                    return Err(Refusal::Spelling);
                 }
-                return Identified {
-                    read: NameRead::Read(next),
-                    words: known,
-                };
+                return Ok(());
             }
-            Piece::Literal(_, m, from, to) => {
-                known = noted(text, from, to, punycoded, known);
-                if !m {
-                    return Identified {
-                        read: NameRead::Read(Cursor { at: to }),
-                        words: known,
-                    };
+            Piece::Literal(letters, bytes) => {
+                if !punycoded {
+                    note(text.text, bytes.from, bytes.to, known);
                 }
-                at = to;
+                if !letters.more {
+                    return Ok(());
+                }
                 more = true;
                 empty = false;
-            }
-            Piece::Refused(f) => {
-                return Identified {
-                    read: NameRead::Refused(f),
-                    words: known,
-                };
             }
         }
     }
 }
 
 // Reads an identifier that does not begin with `0`: one literal.
-fn plain(text: &[u8], c: Cursor, w: Words) -> Identified
-    requires { (c.at ≤ length text.now) × (length text.now ≤ 65535) × Fitting text.now w × NoZero text.now c.at × (Text.well_formed text.now ≡ true) }
-    ensures { ((fuel : ℕ) → length text.now < c.at + fuel → Got_table (named length W.note_words fuel false false (table text.now w) true (drop c.at text.now)) text.now c.at result.read result.words) × Fitting text.now result.words }
+fn plain<K: Known>(text: &mut Reader, known: &mut K) -> Result<(), Refusal>
+    requires { (text.old.at ≤ length text.old.text.now) × (length text.old.text.now ≤ 65535) × NoZero text.old.text.now text.old.at × (Text.well_formed text.old.text.now ≡ true) }
+    ensures { (words : List Name) → K.stands text.old.text.now known.old words → (fuel : ℕ) → length text.old.text.now < text.old.at + fuel → Finds (K.stands text.old.text.now known.new) (named length W.note_words fuel false false words true (rest text.old)) text.old text.new result }
 {
-    match literal(text, c, false) {
-        Extent::Read(from, to) => {
-            let known = note_words(text, from, to, w);
-            Identified {
-                read: NameRead::Read(Cursor { at: to }),
-                words: known,
-            }
-        }
-        Extent::Refused(f) => Identified {
-            read: NameRead::Refused(f),
-            words: w,
-        },
-    }
+    let bytes = literal(text, false)?;
+    note(text.text, bytes.from, bytes.to, known);
+    Ok(())
 }
 
 // Reads an identifier. `00` before it marks punycode, `0` alone allows word letters.
-pub fn identifier(text: &[u8], c: Cursor, w: Words) -> Identified
-    requires { (c.at ≤ length text.now) × ((length text.now ≤ 65535) × Fitting text.now w) × (Text.well_formed text.now ≡ true) }
-    ensures { Identifies (W.identifier (table text.now w) (drop c.at text.now)) text.now c.at result }
+fn read<K: Known>(text: &mut Reader, known: &mut K) -> Result<(), Refusal>
+    requires { (text.old.at ≤ length text.old.text.now) × (length text.old.text.now ≤ 65535) × (Text.well_formed text.old.text.now ≡ true) }
+    ensures { (words : List Name) → K.stands text.old.text.now known.old words → Finds (K.stands text.old.text.now known.new) (identifier_of length W.note_words words (rest text.old)) text.old text.new result }
 {
-    let first = next_if(text, c, b'0');
-    let zero = first.taken;
-    let next = first.next;
-    if !zero {
-        return plain(text, next, w);
+    if !text.next_if(b'0') {
+        return plain(text, known);
     }
-    let second = next_if(text, next, b'0');
-    let punycoded = second.taken;
-    let after = second.next;
-    rounds_of(text, after, w, !punycoded, punycoded)
+    let punycoded = text.next_if(b'0');
+    rounds_of(text, known, !punycoded, punycoded)
 }
 
-// The same, with the words as a count
-
-fn noted_count(text: &[u8], from: usize, to: usize, punycoded: bool, count: usize) -> usize
-    requires { (from ≤ to) × ((to ≤ length text.now) × (length text.now ≤ 65535)) }
-    ensures { result ≡ known_after (C.count_words_from 0 0) punycoded (part text.now from to) count }
+// Reads an identifier, and notes its words.
+pub fn identifier(text: &mut Reader, words: &mut Words) -> Result<(), Refusal>
+    requires { (text.old.at ≤ length text.old.text.now) × (length text.old.text.now ≤ 65535) × Fitting text.old.text.now words.old × (Text.well_formed text.old.text.now ≡ true) }
+    ensures { Identifies (W.identifier (table text.old.text.now words.old) (rest text.old)) text.old text.new words.new result }
 {
-    if punycoded {
-        return count;
-    }
-    count_words(text, from, to, count)
+    read(text, words)
 }
 
-fn count_rounds(text: &[u8], c: Cursor, count: usize, subs: bool, punycoded: bool) -> CountRead
-    requires { (c.at ≤ length text.now) × (length text.now ≤ 65535) × (Text.well_formed text.now ≡ true) }
-    ensures { (fuel : ℕ) → length text.now < c.at + fuel → Got_count (named (λ (n : ℕ). n) (C.count_words_from 0 0) fuel subs punycoded count true (drop c.at text.now)) text.now c.at result }
+// Reads an identifier, and counts its words.
+pub fn identifier_count(text: &mut Reader, count: &mut usize) -> Result<(), Refusal>
+    requires { (text.old.at ≤ length text.old.text.now) × (length text.old.text.now ≤ 65535) × (Text.well_formed text.old.text.now ≡ true) }
+    ensures { Counted (C.identifier count.old (rest text.old)) text.old text.new count.new result }
 {
-    let mut at = c.at;
-    let mut known = count;
-    let mut more = subs;
-    let mut empty = true;
-    loop {
-        match round_of(text, Cursor { at }, known, more, punycoded, empty) {
-            Piece::Closed(e, next) => {
-                if e {
-                    return CountRead::Refused(Refusal::Spelling);
-                }
-                return CountRead::Read(known, next);
-            }
-            Piece::Literal(_, m, from, to) => {
-                known = noted_count(text, from, to, punycoded, known);
-                if !m {
-                    return CountRead::Read(known, Cursor { at: to });
-                }
-                at = to;
-                more = true;
-                empty = false;
-            }
-            Piece::Refused(f) => {
-                return CountRead::Refused(f);
-            }
-        }
-    }
-}
-
-fn plain_count(text: &[u8], c: Cursor, count: usize) -> CountRead
-    requires { (c.at ≤ length text.now) × (length text.now ≤ 65535) × NoZero text.now c.at × (Text.well_formed text.now ≡ true) }
-    ensures { (fuel : ℕ) → length text.now < c.at + fuel → Got_count (named (λ (n : ℕ). n) (C.count_words_from 0 0) fuel false false count true (drop c.at text.now)) text.now c.at result }
-{
-    match literal(text, c, false) {
-        Extent::Read(from, to) => {
-            CountRead::Read(count_words(text, from, to, count), Cursor { at: to })
-        }
-        Extent::Refused(f) => CountRead::Refused(f),
-    }
-}
-
-// Reads an identifier, and returns how many words are known after it.
-pub fn identifier_count(text: &[u8], c: Cursor, count: usize) -> CountRead
-    requires { (c.at ≤ length text.now) × (length text.now ≤ 65535) × (Text.well_formed text.now ≡ true) }
-    ensures { Counted (C.identifier count (drop c.at text.now)) text.now c.at result }
-{
-    let first = next_if(text, c, b'0');
-    let zero = first.taken;
-    let next = first.next;
-    if !zero {
-        return plain_count(text, next, count);
-    }
-    let second = next_if(text, next, b'0');
-    let punycoded = second.taken;
-    let after = second.next;
-    count_rounds(text, after, count, !punycoded, punycoded)
+    read(text, count)
 }

@@ -13,15 +13,15 @@ use lib.Seq.{drop-drop}
 use Rattle.definition.specs.Base.{Name, same, is, Out, ok, refused}
 use Rattle.definition.specs.Text.{Text, next_if, natural, peek}
 use Rattle.text_words.specs.Table.{part, table}
-use Rattle.text_words.specs.declared.Words.{Words}
+use Rattle.text_words.specs.Table.{Words}
 use Rattle.text_spelling.specs.Segments.{Segment, segment, end, counted, of_bytes, of_length, literal_segment, segment_of, lead, Follows, nothing, after}
 use Rattle.text_spelling.proofs.segments.Steps.{start_plain, literal_open, segment_plain}
-use Rattle.text_output.specs.Sink.{Room, Wrote, Rest, rest_start, rest_then, rest_end, rest_past}
-use Rattle.text_spelling.specs.Spelled.{Spells, LengthIs, Appended}
+use Rattle.text_output.specs.Appends.{Appended, Rest, rest_start, rest_then, rest_end, rest_past}
+use Rattle.text_output.specs.declared.Sink.{Sink}
+use Rattle.text_spelling.specs.Spelled.{Spells, LengthIs, Spelled}
 use Rattle.text_spelling.specs.SegmentsRead.{Begun, Taken, SegmentIs}
 use Rattle.text_spelling.specs.declared.segments.Speller.{Speller}
 use Rattle.text_spelling.specs.declared.segments.Segment.{Segment as Answer}
-use Rattle.text_spelling.specs.declared.segments.Segment.TheVariants as Answer
 use Rattle.text_words.proofs.Parts.{part_length}
 use Rattle.text_cursor.proofs.Steps.{front, ended, differ, next_if_leaves}
 use Rattle.text_spelling.proofs.Reading.{spelled_again}
@@ -148,34 +148,35 @@ module _ (text : Text) (w : Words) (p : ℕ) where
     counting_end e = record { is = left_end s {R = λ name. sum ≡ length name} e c.left (λ name k. omega (arith, k)); small = omega (arith, c.small, c.inside) }
 
   -- PUT_NAME
-  -- appending the rest of the name at the cursor to o at r appends the whole to o₀ at at₀
-  pub record Writing (room : ℕ) (o₀ : List ℕ) (at₀ : ℕ) (o : List ℕ) (s : Speller) (r : ℕ) : Type 0 where
+  -- appending the rest of the name at the cursor to o appends the whole to o₀
+  pub record Writing (o₀ o : Sink) (s : Speller) : Type 0 where
     pub inside : s.at ≤ length text
-    pub next : Room room o r
-    pub len : length o ≡ length o₀
-    pub left : Left (λ name rest. Rest room o₀ at₀ name o r rest) s
+    pub same : o.out.ghost_name ≡ o₀.out.ghost_name
+    pub room : o.room ≡ o₀.room
+    pub len : length o.out.now ≡ length o₀.out.now
+    pub left : Left (λ name rest. Rest o₀ name o rest) s
 
-  pub writing_first : {room at : ℕ} {o : List ℕ} {s : Speller} → Room room o at → Begun text p s → Writing room o at o s at
-  writing_first {room} {at} {o} h b = record { inside = b.inside; next = h; len = refl; left = left_first (λ name rest. Rest room o at name o at rest) b (λ name. rest_start h) }
+  pub writing_first : (o : Sink) {s : Speller} → Begun text p s → Writing o o s
+  writing_first o b = record { inside = b.inside; same = refl; room = refl; len = refl; left = left_first (λ name rest. Rest o name o rest) b (λ name. rest_start) }
 
-  module _ (room : ℕ) (o₀ : List ℕ) (at₀ : ℕ) (o : List ℕ) (s : Speller) (r : ℕ) (c : Writing room o₀ at₀ o s r) where
-    pub writing_next : {from to : ℕ} {next : Speller} {o' : List ℕ} {r' : ℕ} → Taken (here s) text (s.at + 1) s.punycoded from to next → Wrote room o o' r (part text from to) r' →
-        Writing room o₀ at₀ o' next r'
-    writing_next {o' = o'} {r' = r'} t v = record {
+  module _ (o₀ o : Sink) (s : Speller) (c : Writing o₀ o s) where
+    pub writing_next : {from to : ℕ} {next : Speller} {o' : Sink} → Taken (here s) text (s.at + 1) s.punycoded from to next → Appended o o' (part text from to) → Writing o₀ o' next
+    writing_next {o' = o'} t v = record {
       inside = t.within;
-      next = v.next;
-      len = v.len ∙ c.len;
-      left = left_next s {R = λ name rest. Rest room o₀ at₀ name o' r' rest} t c.left (λ name rest e. rest_then v e);
+      same = v.same ∙ c.same;
+      room = v.room ∙ c.room;
+      len = v.wrote.len ∙ c.len;
+      left = left_next s {R = λ name rest. Rest o₀ name o' rest} t c.left (λ name rest e. rest_then v e);
     }
 
-    pub writing_past : room < r → Appended text w p room o₀ o at₀ r
-    writing_past k = record { is = λ name h. rest_past k (c.left name h).done; next = c.next; len = c.len }
+    pub writing_past : o.room < o.at → Spelled text w p o₀ o
+    writing_past k = record { is = λ name h. rest_past k (c.left name h).done; same = c.same; room = c.room; len = c.len }
 
-    pub writing_end : here s ≡ end → Appended text w p room o₀ o at₀ r
-    writing_end e = record { is = left_end s {R = λ name. Wrote room o₀ o at₀ name r} e c.left (λ name k. rest_end k); next = c.next; len = c.len }
+    pub writing_end : here s ≡ end → Spelled text w p o₀ o
+    writing_end e = record { is = left_end s {R = λ name. Appended o₀ o name} e c.left (λ name k. rest_end k); same = c.same; room = c.room; len = c.len }
 
   -- a name that does not begin with `0`: a length and its bytes
-  module _ {room at : ℕ} {o : List ℕ} (h : Room room o at) (l : p < length text) (z : get_or text p 0 ≡ 48 → ⊥) where
+  module _ (o : Sink) (l : p < length text) (z : get_or text p 0 ≡ 48 → ⊥) where
     abbrev plain : Speller
     plain = record { at = p; more = false; punycoded = false }
 
@@ -188,18 +189,18 @@ module _ (text : Text) (w : Words) (p : ℕ) where
     there : here plain ≡ bytes_there
     there = segment_plain (table text w) false text p ∙ literal_open false false (drop p text) no_zero
 
-    begun : Writing room o at o plain at
-    begun = writing_first h (record { is = start_plain (drop p text) no_zero; inside = omega arith })
+    begun : Writing o o plain
+    begun = writing_first o (record { is = start_plain (drop p text) no_zero; inside = omega arith })
 
-    pub plain_put : {from to r : ℕ} {next : Speller} {o' : List ℕ} → Taken bytes_there text (p + 1) false from to next → Wrote room o o' at (part text from to) r → Appended text w p room o o' at r
-    plain_put {from} {to} {r} {next} {o'} t v =
+    pub plain_put : {from to : ℕ} {next : Speller} {o' : Sink} → Taken bytes_there text (p + 1) false from to next → Appended o o' (part text from to) → Spelled text w p o o'
+    plain_put {from} {to} {next} {o'} t v =
         let (a, b) = last_length false (natural (drop p text)) t.is in
         let k : Taken (here plain) text (p + 1) false from to next = record { is = there ∙ t.is; kept = t.kept; order = t.order; inside = t.inside; onward = t.onward; within = t.within } in
-        writing_end room o at o' next r (writing_next room o at o plain at begun k v)
+        writing_end o o' next (writing_next o o plain begun k v)
         (ap (λ (m : Bool). segment_of (table text w) m next.punycoded (drop next.at text)) a ∙ ap (segment_of (table text w) false next.punycoded) b ∙ no_text (table text w) next.punycoded)
 
-    pub plain_none : bytes_there ≡ end → Appended text w p room o o at at
-    plain_none e = writing_end room o at o plain at begun (there ∙ e)
+    pub plain_none : bytes_there ≡ end → Spelled text w p o o
+    plain_none e = writing_end o o plain begun (there ∙ e)
 
   -- NAME_IS
   -- the name up to the cursor is fixed[..k]

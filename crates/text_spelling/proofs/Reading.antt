@@ -10,7 +10,7 @@ use Prim.Native.Char.{code}
 use native.Mathlib.Omega.{arith}
 use lib.Dec.{ltb}
 use lib.ListN.{length, get_elem?}
-use Rattle.definition.specs.Base.{Name, is, lower, upper, Out, ok, refused, Step, Done, ret, unless, and_then, ◌>>=◌, ◌>>◌}
+use Rattle.definition.specs.Base.{Name, is, lower, upper, Out, ok, refused, Step, Done, ret, unless, and_then, ◌>>=◌}
 use Rattle.definition.specs.Text.{Text, peek, next_if, natural, well_formed}
 use Rattle.definition.specs.Words.{note_words, Spelled, spelled, word_letters, take_bytes, literal, Identified, identified, identifier_from, is_empty, identifier}
 use Rattle.definition.proofs.WordsAdded.{Begins, Looked, begins_trans, found_again, identifier_from_begins}

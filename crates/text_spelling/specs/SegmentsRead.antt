@@ -6,7 +6,6 @@ use Rattle.text_words.specs.Table.{part}
 use Rattle.text_spelling.specs.Segments as P
 use Rattle.text_spelling.specs.declared.segments.Speller.{Speller}
 use Rattle.text_spelling.specs.declared.segments.Segment.{Segment}
-use Rattle.text_spelling.specs.declared.segments.Segment.TheVariants as Segment
 
 -- PIECE BY PIECE
 -- a cursor after the lead of an identifier

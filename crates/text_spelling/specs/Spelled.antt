@@ -6,8 +6,9 @@ use Rattle.definition.specs.Text.{Text}
 use Rattle.definition.specs.Words as W
 use Rattle.definition.proofs.WordsAdded.{Looked}
 use Rattle.text_words.specs.Table.{table}
-use Rattle.text_words.specs.declared.Words.{Words}
-use Rattle.text_output.specs.Sink.{Room, Wrote}
+use Rattle.text_words.specs.Table.{Words}
+use Rattle.text_output.specs.Appends.{Appended}
+use Rattle.text_output.specs.declared.Sink.{Sink}
 
 -- The identifier at the place p of the text was read with the words that were known then, and is
 -- this name. If it used words, the table w has those that were known after it, and maybe more
@@ -25,8 +26,9 @@ pub record LengthIs (text : Text) (w : Words) (p r : ℕ) : Type 0 where
   pub is : (name : Name) → Spells text w p name → r ≡ length name
   pub small : r < 2 ^ 32
 
--- the name is appended to o at `at`
-pub record Appended (text : Text) (w : Words) (p room : ℕ) (o o' : List ℕ) (at r : ℕ) : Type 0 where
-  pub is : (name : Name) → Spells text w p name → Wrote room o o' at name r
-  pub next : Room room o' r
-  pub len : length o' ≡ length o
+-- the name is appended to the sink
+pub record Spelled (text : Text) (w : Words) (p : ℕ) (s s' : Sink) : Type 0 where
+  pub is : (name : Name) → Spells text w p name → Appended s s' name
+  pub same : s'.out.ghost_name ≡ s.out.ghost_name
+  pub room : s'.room ≡ s.room
+  pub len : length s'.out.now ≡ length s.out.now

@@ -2,11 +2,12 @@
 ghost use Rattle.std.specs.Prelude.{◌≡◌, ◌+◌, ◌≤◌, ◌<◌, length, drop};
 ghost use Rattle.std.proofs.Math.ListN.{get_elem?};
 ghost use Rattle.definition.specs.Text.{Text, natural};
-ghost use Rattle.text_words.specs.Table.{table, Fitting, lent};
+ghost use Rattle.text_words.specs.Table.{table, Fitting};
 ghost use Rattle.text_spelling.specs.Segments as P;
 ghost use Rattle.text_spelling.specs.SegmentsRead.{Begun, SegmentIs, Passed};
 
 use text_cursor::{Cursor, Number, is_lower, is_upper, natural, next_if};
+use text_words::Words;
 
 // A cursor into an identifier: whether word letters may follow, and whether it is punycode.
 #[derive(Clone, Copy)]
@@ -48,23 +49,15 @@ pub fn first(text: &[u8], p: usize) -> Speller
     }
 }
 
-fn wide(x: u16) -> usize
-    ensures { (result ≡ x) × (result < 65536) }
-{
-    x as usize
-}
-
 // Returns the word that a letter represents, with the cursor after the letter.
-fn word(starts: &[u16; 26], lengths: &[u16; 26], known: usize, i: usize, next: Speller) -> Segment
-    requires { known ≤ 26 }
-    ensures { (text : Text) → Fitting text (lent starts.now lengths.now known) → next.at ≤ length text → SegmentIs (P.of_word (get_elem? (table text (lent starts.now lengths.now known)) i) next.more (drop next.at text)) text next.at next.punycoded result }
+fn word(known: &Words, i: usize, next: Speller) -> Segment
+    requires { known.now.count ≤ 26 }
+    ensures { (text : Text) → Fitting text known.now → next.at ≤ length text → SegmentIs (P.of_word (get_elem? (table text known.now) i) next.more (drop next.at text)) text next.at next.punycoded result }
 {
-    if known <= i {
-        return Segment::End;
+    match known.get(i) {
+        Some(span) => Segment::Part(span.from(), span.to(), next),
+        None => Segment::End,
     }
-    let from = wide(starts[i]);
-    let to = from + wide(lengths[i]);
-    Segment::Part(from, to, next)
 }
 
 // Returns the place after the `_` that may follow the length of a punycode name.
@@ -137,15 +130,9 @@ fn literal(text: &[u8], at: usize, more: bool, punycoded: bool) -> Segment
 }
 
 // Returns the segment at the cursor.
-pub fn next_segment(
-    text: &[u8],
-    starts: &[u16; 26],
-    lengths: &[u16; 26],
-    known: usize,
-    s: Speller,
-) -> Segment
-    requires { (s.at ≤ length text.now) × Fitting text.now (lent starts.now lengths.now known) }
-    ensures { SegmentIs (P.segment_of (table text.now (lent starts.now lengths.now known)) s.more s.punycoded (drop s.at text.now)) text.now (s.at + 1) s.punycoded result }
+pub fn next_segment(text: &[u8], known: &Words, s: Speller) -> Segment
+    requires { (s.at ≤ length text.now) × Fitting text.now known.now }
+    ensures { SegmentIs (P.segment_of (table text.now known.now) s.more s.punycoded (drop s.at text.now)) text.now (s.at + 1) s.punycoded result }
 {
     let at = s.at;
     let more = s.more;
@@ -155,8 +142,6 @@ pub fn next_segment(
             let b = text[at];
             if is_lower(b) {
                 return word(
-                    starts,
-                    lengths,
                     known,
                     (b - 97) as usize,
                     Speller {
@@ -168,8 +153,6 @@ pub fn next_segment(
             }
             if is_upper(b) {
                 return word(
-                    starts,
-                    lengths,
                     known,
                     (b - 65) as usize,
                     Speller {

@@ -1,16 +1,17 @@
 -- What a result about the prefix and parts of a symbol says about the definition. Assumes nothing.
 use Rattle.std.specs.Prelude.{◌≡◌, Bool, not, ℕ, ◌+◌, ◌-◌, ◌≤◌, ◌<◌, length, take, drop}
+use Rattle.std.specs.Prelude as Std
+use Rattle.std.specs.Prelude.{Some, None}
 use Rattle.std.proofs.Math.Option.{Option, some, none}
 use Rattle.definition.specs.Base.{is}
 use Rattle.definition.specs.Text as Text
 use Rattle.definition.specs.Text.{Text, before_dot}
-use Rattle.text_symbols.specs.declared.Prefixed.{Prefixed}
-use Rattle.text_symbols.specs.declared.Symbol.{Symbol}
+use Rattle.text_symbols.specs.declared.Parts.{Parts as Split}
 
 -- the length of the prefix
-abbrev pub PrefixIs : Option ℕ → Prefixed → Type 0
-PrefixIs out (Prefixed.By n) = out ≡ some n
-PrefixIs out Prefixed.Not = out ≡ none
+abbrev pub PrefixIs : Option ℕ → Std.Option ℕ → Type 0
+PrefixIs out (Some n) = out ≡ some n
+PrefixIs out None = out ≡ none
 
 abbrev pub no_dot : ℕ → Bool
 no_dot b = not (is "." b)
@@ -30,6 +31,6 @@ pub record Parts (out : Option Text.Symbol) (text : Text) (start end : ℕ) : Ty
   pub order : start ≤ end
   pub inside : end ≤ length text
 
-abbrev pub SplitIs : Option Text.Symbol → Text → Symbol → Type 0
-SplitIs out text (Symbol.Parts start end) = Parts out text start end
-SplitIs out text Symbol.Not = out ≡ none
+abbrev pub SplitIs : Option Text.Symbol → Text → Std.Option Split → Type 0
+SplitIs out text (Some p) = Parts out text p.start p.end
+SplitIs out text None = out ≡ none

@@ -1,47 +1,79 @@
 -- Characters of UTF-8 at a place of a text. Assumes nothing.
-use mathlib.Core.Path.{◌≡◌, refl, sym, subst, ap, ◌∙◌}
-use mathlib.Core.Bool.{true, false}
-use mathlib.Core.List.{◌∷◌, map}
+use mathlib.Core.Path.{◌≡◌, refl, subst, ap, ◌∙◌}
+use mathlib.Core.Bool.{Bool, true, false, ◌&&◌, and-false, and-eq-true_iff}
+use mathlib.Core.List.{List, [], ◌∷◌}
 use mathlib.Core.Option.{Option, some, none}
 use Prim.Native.Nat.{ℕ, zero, suc, ◌+◌, ◌-◌, ◌≤◌, ◌<◌}
 use native.Mathlib.Omega.{arith}
-use native.Mathlib.Numerals.{add-one}
-use borrow.Author.Tests.{lt-ltb, le-ltb, ltb-true}
-use lib.ListN.{length, get_or, drop, length-drop, get_or-map}
-use lib.Seq.{drop-cons}
+use borrow.Author.Tests.{lt-ltb, le-ltb, ltb-true, leb-true, lt-leb, le-leb}
+use lib.Dec.{leb, ltb}
+use lib.ListN.{length, get_or, drop, length-drop}
 use Rattle.definition.specs.Base.{between}
 use Rattle.definition.specs.Text.{Text, Utf8Row, utf8_row, utf8_rows, tails, second, by_row, character, ill_formed_from, ill_formed, well_formed}
-use Rattle.text_utf8.specs.Utf8.{row_at, Follows, Passed, below_80}
-use Rattle.text_utf8.specs.declared.Behind.{Behind}
+use Rattle.text_utf8.specs.Utf8.{row, Follows, Passed, below_80}
+use Rattle.std.specs.Prelude as Std
+use Rattle.std.specs.Prelude.{Some, None}
+use Rattle.text_utf8.specs.declared.Row.{Row}
 use Rattle.text_cursor.specs.Each.{Each}
 use Rattle.text_cursor.proofs.Steps.{front, ended}
 
 -- THE TABLE
--- a column of the table at a row
-pub column_at : (f : Utf8Row → ℕ) (i : ℕ) → get_or (map f utf8_rows) i (f (utf8_row 0 0 0 0 0)) ≡ f (row_at utf8_rows i)
-column_at f i = get_or-map f utf8_rows i (utf8_row 0 0 0 0 0)
+-- the first bytes of a row do not bear on what follows them
+second_same : (r : Utf8Row) (t : Text) → second r t ≡ second (utf8_row 0 0 r.low r.high r.more) t
+unfolding second
+second_same r [] = refl
+second_same r (c ∷ t) = refl
 
-row_front : (i : ℕ) → i < 8 → drop i utf8_rows ≡ row_at utf8_rows i ∷ drop (i + 1) utf8_rows
-unfolding utf8_rows
-row_front i h = drop-cons utf8_rows i (utf8_row 0 0 0 0 0) h ∙ ap (λ (n : ℕ). row_at utf8_rows i ∷ drop n utf8_rows) (sym (add-one i))
+unfoldable pub row_at : List Utf8Row → ℕ → Utf8Row
+row_at rs i = get_or rs i (utf8_row 0 0 0 0 0)
 
--- the loop of `row_of`: no row before i begins with b
-pub record Searching (b i : ℕ) : Type 0 where
-  pub inside : i ≤ 8
-  pub same : (t : Text) → by_row b utf8_rows t ≡ by_row b (drop i utf8_rows) t
+-- the first bytes of row i are above those of the rows before it
+unfoldable pub above : List Utf8Row → ℕ → Bool
+above [] i = false
+above (r ∷ rs) zero = true
+above (r ∷ rs) (suc i) = ltb r.last (row_at rs i).first && above rs i
 
-module _ (b i : ℕ) (t : Text) where
-  pub row_here : i < 8 → between (row_at utf8_rows i).first (row_at utf8_rows i).last b ≡ true → by_row b (drop i utf8_rows) t ≡ second (row_at utf8_rows i) t
-  unfolding by_row
-  row_here h e = rw (row_front i h, by_row, e)
+-- the first bytes of each row are C2 to F4
+unfoldable pub all_from : List Utf8Row → Bool
+all_from [] = true
+all_from (r ∷ rs) = leb 0xC2 r.first && all_from rs
 
-  pub row_later : i < 8 → between (row_at utf8_rows i).first (row_at utf8_rows i).last b ≡ false → by_row b (drop i utf8_rows) t ≡ by_row b (drop (i + 1) utf8_rows) t
-  unfolding by_row
-  row_later h e = rw (row_front i h, by_row, e)
+unfoldable pub all_to : List Utf8Row → Bool
+all_to [] = true
+all_to (r ∷ rs) = leb r.last 0xF4 && all_to rs
 
-  pub row_none : i ≡ 8 → by_row b (drop i utf8_rows) t ≡ none
-  unfolding by_row utf8_rows
-  row_none e = ap (λ (n : ℕ). by_row b (drop n utf8_rows) t) e
+module _ (b : ℕ) (t : Text) where
+  row_is : (rs : List Utf8Row) (i : ℕ) → above rs i ≡ true → (row_at rs i).first ≤ b → b ≤ (row_at rs i).last → by_row b rs t ≡ second (utf8_row 0 0 (row_at rs i).low (row_at rs i).high (row_at rs i).more) t
+  unfolding by_row above row_at
+  row_is [] i e h k = cc
+  row_is (r ∷ rs) zero e h k = rw (by_row, le-leb r.first b h, le-leb b r.last k) (second_same r t)
+  row_is (r ∷ rs) (suc i) e h k =
+      let q = (and-eq-true_iff _ _).0 e in
+      let k₀ : r.last < (row_at rs i).first = ltb-true _ _ q.0 in
+      let l : r.last < b = omega arith in
+      rw (by_row, lt-leb b r.last l, and-false (leb r.first b)) (row_is rs i q.1 h k)
+
+  pub row_made : (rs : List Utf8Row) (i : ℕ) → above rs i ≡ true → (row_at rs i).first ≤ b → b ≤ (row_at rs i).last → (r : Row) → (r.low ≡ (row_at rs i).low) × (r.high ≡ (row_at rs i).high) × (r.more ≡ (row_at rs i).more) → by_row b rs t ≡ second (row r) t
+  row_made rs i e h k r is = rw is.0 (rw is.1 (rw is.2 (row_is rs i e h k)))
+
+  -- no row begins with a byte below C2, nor with one above F4
+  pub no_row_below : (rs : List Utf8Row) → all_from rs ≡ true → b < 0xC2 → by_row b rs t ≡ none
+  unfolding by_row all_from
+  no_row_below [] e h = refl
+  no_row_below (r ∷ rs) e h =
+      let q = (and-eq-true_iff _ _).0 e in
+      let k₀ : 0xC2 ≤ r.first = leb-true _ _ q.0 in
+      let l : b < r.first = omega arith in
+      rw (by_row, lt-leb r.first b l) (no_row_below rs q.1 h)
+
+  pub no_row_above : (rs : List Utf8Row) → all_to rs ≡ true → 0xF4 < b → by_row b rs t ≡ none
+  unfolding by_row all_to
+  no_row_above [] e h = refl
+  no_row_above (r ∷ rs) e h =
+      let q = (and-eq-true_iff _ _).0 e in
+      let k₀ : r.last ≤ 0xF4 = leb-true _ _ q.0 in
+      let l : r.last < b = omega arith in
+      rw (by_row, lt-leb b r.last l, and-false (leb r.first b)) (no_row_above rs q.1 h)
 
 -- THE BYTES AFTER THE FIRST
 -- the loop of `tails`
@@ -92,9 +124,9 @@ pub character_row : (b : ℕ) (t : Text) → 128 ≤ b → character b t ≡ by_
 unfolding character
 character_row b t h = rw (character, le-ltb _ _ h)
 
-pub passed_is : (text : Text) {o o' : Option Text} {least least' : ℕ} → o ≡ o' → least ≤ least' → (r : Behind) → Passed o' text least' r → Passed o text least r
-passed_is text e l (Behind.At next) h = record { is = e ∙ h.is; inside = h.inside; onward = omega arith }
-passed_is text e l Behind.Broken h = e ∙ h
+pub passed_is : (text : Text) {o o' : Option Text} {least least' : ℕ} → o ≡ o' → least ≤ least' → (r : Std.Option ℕ) → Passed o' text least' r → Passed o text least r
+passed_is text e l (Some next) h = record { is = e ∙ h.is; inside = h.inside; onward = omega arith }
+passed_is text e l None h = e ∙ h
 
 -- THE TEXT
 -- the loop of `ill_formed`: the text before `at` is well-formed
@@ -159,6 +191,3 @@ well_formed_no t e = rw (well_formed, e)
 pub well_formed_all : (t : Text) → ill_formed t ≡ none → well_formed t ≡ true
 unfolding well_formed
 well_formed_all t e = rw (well_formed, e)
-
-pub between_is : {low low' high high' : ℕ} (b : ℕ) → low ≡ low' → high ≡ high' → between low high b ≡ between low' high' b
-between_is {low' = low'} {high = high} b e k = ap (λ (l : ℕ). between l high b) e ∙ ap (λ (h : ℕ). between low' h b) k

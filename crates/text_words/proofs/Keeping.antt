@@ -1,108 +1,110 @@
 -- The table, and one more word. Assumes nothing.
-use mathlib.Core.Path.{◌≡◌, refl, sym}
-use mathlib.Core.Bool.{true, false, ◌&&◌, and-false}
+use mathlib.Core.Path.{◌≡◌, refl, sym, ap, ap₂, ◌∙◌}
+use mathlib.Core.Bool.{Bool, true, false, ◌&&◌, and-eq-true_iff}
 use mathlib.Core.List.{List, [], ◌∷◌, ◌++◌}
 use Prim.Native.Nat.{ℕ, zero, suc, ◌+◌, ◌-◌, ◌≤◌, ◌<◌}
 use native.Mathlib.Omega.{arith}
 use native.Mathlib.Numerals.{add-one}
 use borrow.Author.Count.{below_more}
-use borrow.Author.Tests.{le-leb, lt-leb, lt-ltb, le-ltb}
+use borrow.Author.Tests.{leb-true, ltb-true}
 use lib.Dec.{leb, ltb}
-use lib.ListN.{length, get_or, set, length-append}
+use lib.ListN.{length, set, take, drop, length-append}
 use lib.Seq.{get_or-set_same, get_or-set_other}
 use Rattle.definition.specs.Base.{Name}
 use Rattle.definition.specs.Text.{Text}
 use Rattle.definition.specs.Words.{keep}
-use Rattle.definition.specs.Check.{keep_count}
-use Rattle.text_words.specs.Table.{part, words_of, table, Fitting, Holds}
-use Rattle.text_words.specs.declared.Words.{Words}
+use Rattle.text_words.specs.Table.{part, Words, span_at, words_of, table, Fitting, Lists}
+use Rattle.text_words.specs.declared.spans.Span.{Span}
 use Rattle.text_words.proofs.Parts.{part_length}
 
-pub length_words_of : (text : Text) (s l : List ℕ) (n : ℕ) → length (words_of text s l n) ≡ n
+pub length_words_of : (text : Text) (s : List Span) (n : ℕ) → length (words_of text s n) ≡ n
 unfolding words_of
-length_words_of text s l zero = refl
-length_words_of text s l (suc n) =
-    let z : length (words_of text s l n) ≡ n = length_words_of text s l n in
+length_words_of text s zero = refl
+length_words_of text s (suc n) =
+    let z : length (words_of text s n) ≡ n = length_words_of text s n in
     rw length-append (omega arith)
 
 pub table_length : (text : Text) (w : Words) → w.count ≡ length (table text w)
-table_length text w = sym (length_words_of text w.starts w.lengths w.count)
+table_length text w = sym (length_words_of text w.spans w.count)
 
 -- what is stored after the words does not change them
-words_of_set : (text : Text) (s l : List ℕ) (i a b n : ℕ) → n ≤ i → words_of text (set s i a) (set l i b) n ≡ words_of text s l n
+words_of_set : (text : Text) (s : List Span) (i : ℕ) (a : Span) (n : ℕ) → n ≤ i → words_of text (set s i a) n ≡ words_of text s n
 unfolding words_of
-words_of_set text s l i a b zero h = refl
-words_of_set text s l i a b (suc n) h =
+words_of_set text s i a zero h = refl
+words_of_set text s i a (suc n) h =
     let k : n ≤ i = omega arith in
     let d : n ≡ i → ⊥ = λ e. omega arith in
-    rw (words_of_set text s l i a b n k, get_or-set_other s i n a 0 d, get_or-set_other l i n b 0 d)
+    rw (words_of_set text s i a n k, get_or-set_other s i n a _ d)
 
-module _ (word : Name) where
-  pub keep_short : (ws : List Name) → length word < 2 → keep word ws ≡ ws
+-- one more word after them
+words_of_stored : (text : Text) (s : List Span) (n : ℕ) (a : Span) → n < length s → words_of text (set s n a) (n + 1) ≡ words_of text s n ++ (take a.length (drop a.start text) ∷ [])
+unfolding words_of
+words_of_stored text s n a h =
+    let k : n ≤ n = omega arith in
+    rw (add-one, words_of, words_of_set text s n a n k, get_or-set_same s n a (record { start = 0; length = 0 }) h)
+
+-- a table without words
+module _ (text : Text) (w : Words) (none : w.count ≡ 0) where
+  pub table_none : table text w ≡ []
+  unfolding words_of
+  table_none = ap (words_of text w.spans) none
+
+  pub fitting_none : Fitting text w
+  fitting_none = record { few = omega arith; inside = λ i l. absurd (omega arith); long = λ i l. absurd (omega arith) }
+
+  pub lists_none : Lists text w []
+  lists_none = record { is = table_none; fitting = fitting_none }
+
+-- whether a word is kept
+module _ (word : Name) (ws : List Name) where
+  pub keep_not : (leb 2 (length word) && ltb (length ws) 26) ≡ false → keep word ws ≡ ws
   unfolding keep
-  keep_short ws h = rw (keep, lt-leb 2 (length word) h)
+  keep_not e = rw (keep, e)
 
-  pub keep_full : (ws : List Name) → 26 ≤ length ws → keep word ws ≡ ws
+  pub keep_adds : (leb 2 (length word) && ltb (length ws) 26) ≡ true → keep word ws ≡ ws ++ (word ∷ [])
   unfolding keep
-  keep_full ws h = rw (keep, le-ltb (length ws) 26 h, and-false (leb 2 (length word)))
+  keep_adds e = rw (keep, e)
 
-  pub keep_adds : (ws : List Name) → 2 ≤ length word → length ws < 26 → keep word ws ≡ ws ++ (word ∷ [])
-  unfolding keep
-  keep_adds ws h k = rw (keep, le-leb 2 (length word) h, lt-ltb (length ws) 26 k)
+module _ (text : Text) (start end : ℕ) (l : start ≤ end) (e : end ≤ length text) {n : ℕ} (words : List Name) (many : n ≡ length words) {kept : Bool} (q : kept ≡ (leb 2 (end - start) && ltb n 26)) where
+  tested : {b : Bool} → kept ≡ b → (leb 2 (length (part text start end)) && ltb (length words) 26) ≡ b
+  tested z = rw (part_length text start end e) (ap (λ (m : ℕ). leb 2 (end - start) && ltb m 26) (sym many) ∙ sym q ∙ z)
 
-module _ (n : ℕ) where
-  -- by both tests at once
-  pub count_kept : (ws : ℕ) → (leb 2 n && ltb ws 26) ≡ true → keep_count n ws ≡ suc ws
-  unfolding keep_count
-  count_kept ws e = rw (keep_count, e)
+  -- THE COUNT
+  pub count_same : kept ≡ false → n ≡ length (keep (part text start end) words)
+  count_same z = many ∙ ap length (sym (keep_not (part text start end) words (tested z)))
 
-  pub count_left : (ws : ℕ) → (leb 2 n && ltb ws 26) ≡ false → keep_count n ws ≡ ws
-  unfolding keep_count
-  count_left ws e = rw (keep_count, e)
+  pub count_added : kept ≡ true → n + 1 ≡ length (keep (part text start end) words)
+  count_added z = rw (keep_adds (part text start end) words (tested z), length-append) (omega arith)
 
--- the table with one more word after its words
-abbrev pub stored : Words → ℕ → ℕ → Words
-stored w start end = record { starts = set w.starts w.count start; lengths = set w.lengths w.count (end - start); count = w.count + 1 }
+module _ (text : Text) (start end : ℕ) (l : start ≤ end) (e : end ≤ length text) {w : Words} {words : List Name} (g : Lists text w words) {kept : Bool} (q : kept ≡ (leb 2 (end - start) && ltb w.count 26)) where
+  -- THE TABLE
+  pub known_many : w.count ≡ length words
+  known_many = table_length text w ∙ ap length g.is
 
-module _ (text : Text) (w : Words) (start end : ℕ) (l : start ≤ end) (e : end ≤ length text) (g : Fitting text w) where
-  pub holds_short : end - start < 2 → Holds text (keep (part text start end) (table text w)) w w
-  holds_short h =
-      let k : length (part text start end) < 2 = rw (part_length text start end e) h in
-      record { is = sym (keep_short (part text start end) (table text w) k); fitting = g; more = omega arith }
+  pub lists_same : kept ≡ false → Lists text w (keep (part text start end) words)
+  lists_same z = record { is = g.is ∙ sym (keep_not (part text start end) words (tested text start end l e words known_many q z)); fitting = g.fitting }
 
-  pub holds_full : 26 ≤ w.count → Holds text (keep (part text start end) (table text w)) w w
-  holds_full h =
-      let k : 26 ≤ length (table text w) = rw (← table_length text w) h in
-      record { is = sym (keep_full (part text start end) (table text w) k); fitting = g; more = omega arith }
+  module _ (r : Words) (s : Span) (is : (r.count ≡ w.count + 1) × (r.spans ≡ set w.spans w.count s)) (at : (s.start ≡ start) × (s.length ≡ end - start)) where
+    added : w.count < length w.spans → table text r ≡ table text w ++ (part text start end ∷ [])
+    added room =
+        ap (words_of text r.spans) is.0 ∙ ap (λ (xs : List Span). words_of text xs (w.count + 1)) is.1
+        ∙ words_of_stored text w.spans w.count s room
+        ∙ ap₂ (λ (i j : ℕ). table text w ++ (take j (drop i text) ∷ [])) at.0 at.1
 
-  module _ (h : 2 ≤ end - start) (k : w.count < 26) (ls : w.count < length w.starts) (ll : w.count < length w.lengths) where
-    added : table text (stored w start end) ≡ keep (part text start end) (table text w)
-    unfolding words_of
-    added =
+    pub lists_stored : kept ≡ true → w.count < length w.spans → Lists text r (keep (part text start end) words)
+    lists_stored z room =
         let n = w.count in
-        let s = w.starts in
-        let m = w.lengths in
-        let q : n ≤ n = omega arith in
-        let long : 2 ≤ length (part text start end) = rw (part_length text start end e) h in
-        let few : length (table text w) < 26 = rw (length_words_of text s m n) k in
-        rw (add-one, words_of, words_of_set text s m n start (end - start) n q, get_or-set_same s n start 0 ls, get_or-set_same m n (end - start) 0 ll)
-        (sym (keep_adds (part text start end) (table text w) long few))
-
-    pub holds_stored : Holds text (keep (part text start end) (table text w)) w (stored w start end)
-    holds_stored =
-        let n = w.count in
-        let s = w.starts in
-        let m = w.lengths in
+        let t = (and-eq-true_iff (leb 2 (end - start)) (ltb n 26)).0 (sym q ∙ z) in
+        let h : 2 ≤ end - start = leb-true 2 (end - start) t.0 in
+        let k : n < 26 = ltb-true n 26 t.1 in
         let other : (i : ℕ) → i < n → i ≡ n → ⊥ = λ i p z. omega arith in
-        let inside_new : get_or (set s n start) n 0 + get_or (set m n (end - start)) n 0 ≤ length text = rw (get_or-set_same s n start 0 ls, get_or-set_same m n (end - start) 0 ll) (omega arith) in
-        let long_new : 2 ≤ get_or (set m n (end - start)) n 0 = rw (get_or-set_same m n (end - start) 0 ll) h in
+        let here : span_at r.spans n ≡ s = rw is.1 (get_or-set_same w.spans n s (record { start = 0; length = 0 }) room) in
+        let there : (i : ℕ) → i < n → span_at r.spans i ≡ span_at w.spans i = λ i p. rw is.1 (get_or-set_other w.spans n i s (record { start = 0; length = 0 }) (other i p)) in
         record {
-          is = added;
+          is = added room ∙ ap (λ (ws : List Name). ws ++ (part text start end ∷ [])) g.is ∙ sym (keep_adds (part text start end) words (tested text start end l e words known_many q z));
           fitting = record {
-            few = omega arith;
-            inside = below_more (λ (i : ℕ). get_or (set s n start) i 0 + get_or (set m n (end - start)) i 0 ≤ length text) n
-                (λ i p. rw (get_or-set_other s n i start 0 (other i p), get_or-set_other m n i (end - start) 0 (other i p)) (g.inside i p)) inside_new;
-            long = below_more (λ (i : ℕ). 2 ≤ get_or (set m n (end - start)) i 0) n (λ i p. rw (get_or-set_other m n i (end - start) 0 (other i p)) (g.long i p)) long_new;
+            few = omega (arith, is.0);
+            inside = λ i p. below_more (λ (i : ℕ). (span_at r.spans i).start + (span_at r.spans i).length ≤ length text) n (λ i p. rw (there i p) (g.fitting.inside i p)) (rw (here, at.0, at.1) (omega arith)) i (omega (arith, is.0));
+            long = λ i p. below_more (λ (i : ℕ). 2 ≤ (span_at r.spans i).length) n (λ i p. rw (there i p) (g.fitting.long i p)) (rw (here, at.1) h) i (omega (arith, is.0));
           };
-          more = omega arith;
         }

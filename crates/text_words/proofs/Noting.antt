@@ -1,8 +1,8 @@
--- One byte of `note_words_from` and of `count_words_from`. Assumes nothing.
+-- One byte of `note_words_from`. Assumes nothing.
 use mathlib.Core.Path.{◌≡◌, refl, sym}
 use mathlib.Core.Bool.{Bool, true, false, ◌&&◌, not, and-false}
 use mathlib.Core.List.{List, [], ◌∷◌, ◌++◌}
-use Prim.Native.Nat.{ℕ, zero, suc, ◌+◌, ◌-◌, ◌≤◌, ◌<◌}
+use Prim.Native.Nat.{ℕ, ◌+◌, ◌≤◌, ◌<◌}
 use native.Mathlib.Omega.{arith}
 use borrow.Author.Tests.{lt-leb}
 use lib.Dec.{leb}
@@ -10,7 +10,6 @@ use lib.ListN.{length}
 use Rattle.definition.specs.Base.{Name, is, upper}
 use Rattle.definition.specs.Text.{Text}
 use Rattle.definition.specs.Words.{keep, starts, note_words_from}
-use Rattle.definition.specs.Check.{keep_count, count_words_from}
 use Rattle.text_cursor.proofs.Steps.{differ}
 use Rattle.text_words.specs.Table.{part, Turns}
 use Rattle.text_words.specs.declared.Boundary.{Boundary}
@@ -43,39 +42,11 @@ module _ (p c : ℕ) (t : Text) where
   note_grows [] ws h e k = absurd (omega arith)
   note_grows (x ∷ word) ws h e k = rw (note_words_from, e, k)
 
-  pub count_starts : (ws : ℕ) → starts c ≡ true → count_words_from 0 p (c ∷ t) ws ≡ count_words_from 1 c t ws
-  unfolding count_words_from
-  count_starts ws e = rw (count_words_from, e)
-
-  count_skips : (ws : ℕ) → starts c ≡ false → count_words_from 0 p (c ∷ t) ws ≡ count_words_from 0 c t ws
-  unfolding count_words_from
-  count_skips ws e = rw (count_words_from, e)
-
-  count_ends : (n ws : ℕ) → 0 < n → is "_" c ≡ true → count_words_from n p (c ∷ t) ws ≡ count_words_from 0 c t (keep_count n ws)
-  unfolding count_words_from
-  count_ends zero ws h e = absurd (omega arith)
-  count_ends (suc n) ws h e = rw (count_words_from, e)
-
-  pub count_splits : (n ws : ℕ) → 0 < n → is "_" c ≡ false → (not (upper p) && upper c) ≡ true → count_words_from n p (c ∷ t) ws ≡ count_words_from 1 c t (keep_count n ws)
-  unfolding count_words_from
-  count_splits zero ws h e k = absurd (omega arith)
-  count_splits (suc n) ws h e k = rw (count_words_from, e, k)
-
-  pub count_grows : (n ws : ℕ) → 0 < n → is "_" c ≡ false → (not (upper p) && upper c) ≡ false → count_words_from n p (c ∷ t) ws ≡ count_words_from (suc n) c t ws
-  unfolding count_words_from
-  count_grows zero ws h e k = absurd (omega arith)
-  count_grows (suc n) ws h e k = rw (count_words_from, e, k)
-
 -- at the end the open word ends; if none is open, none is kept
 pub note_end : (word : Name) (p : ℕ) (ws : List Name) → note_words_from word p [] ws ≡ keep word ws
 unfolding note_words_from keep
 note_end [] p ws = refl
 note_end (x ∷ word) p ws = refl
-
-pub count_end : (n p ws : ℕ) → count_words_from n p [] ws ≡ keep_count n ws
-unfolding count_words_from keep_count
-count_end zero p ws = refl
-count_end (suc n) p ws = refl
 
 -- THE TURNS
 -- what ends a word: a capital, not after a capital
@@ -97,19 +68,12 @@ past_capitals b h =
     let l : 90 < b = omega arith in
     rw (lt-leb b 90 l) (and-false (leb 65 b))
 
-one_more : (at : ℕ) → (at + 1) - at ≡ 1
-one_more at = omega arith
-
-none_left : (at : ℕ) → at - at ≡ 0
-none_left at = omega arith
-
 module _ (at p b : ℕ) where
   pub opens : starts b ≡ true → Turns at at p b (boundary false at)
   opens e = record {
     least = omega arith;
     most = omega arith;
     noted = λ text t ws h k. rw (part_none text at, part_one text at h, k) (note_starts p b t ws e);
-    counted = λ t ws. rw (none_left at, one_more at) (count_starts p b t ws e);
   }
 
   pub skips : starts b ≡ false → Turns at at p b (boundary false (at + 1))
@@ -117,22 +81,17 @@ module _ (at p b : ℕ) where
     least = omega arith;
     most = omega arith;
     noted = λ text t ws h k. rw (part_none text at, part_none text (at + 1)) (note_skips p b t ws e);
-    counted = λ t ws. rw (none_left at, none_left (at + 1)) (count_skips p b t ws e);
   }
 
   module _ (start : ℕ) (l : start < at) where
     long : (text : Text) → at < length text → 0 < length (part text start at)
     long text h = let k : at ≤ length text = omega arith in rw (part_length text start at k) (omega arith)
 
-    open_long : 0 < at - start
-    open_long = omega arith
-
     pub ends : is "_" b ≡ true → Turns start at p b (boundary true (at + 1))
     ends e = record {
       least = omega arith;
       most = omega arith;
       noted = λ text t ws h k. rw (part_none text (at + 1)) (note_ends p b t (part text start at) ws (long text h) e);
-      counted = λ t ws. rw (none_left (at + 1)) (count_ends p b t (at - start) ws open_long e);
     }
 
     module _ (e : is "_" b ≡ false) where
@@ -141,7 +100,6 @@ module _ (at p b : ℕ) where
         least = omega arith;
         most = omega arith;
         noted = λ text t ws h q. rw (part_one text at h, q) (note_splits p b t (part text start at) ws (long text h) e k);
-        counted = λ t ws. rw (one_more at) (count_splits p b t (at - start) ws open_long e k);
       }
 
       pub grows : (not (upper p) && upper b) ≡ false → Turns start at p b (boundary false start)
@@ -149,5 +107,4 @@ module _ (at p b : ℕ) where
         least = omega arith;
         most = omega arith;
         noted = λ text t ws h q. let m : start ≤ at = omega arith in rw (part_snoc text start at m h, q) (note_grows p b t (part text start at) ws (long text h) e k);
-        counted = λ t ws. let z : (at + 1) - start ≡ suc (at - start) = omega arith in rw z (count_grows p b t (at - start) ws open_long e k);
       }

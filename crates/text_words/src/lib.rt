@@ -1,33 +1,74 @@
 // The table of the words that later identifiers use again.
 #![tactic(auto)]
 
+// Parts of a text, kept in a row.
+pub mod spans;
 // Literals whose words are not noted yet.
 pub mod waiting;
 
-ghost use Rattle.std.specs.Prelude.{◌≡◌, ◌&&◌, true, leb, ltb, [], ◌+◌, ◌-◌, ◌≤◌, ◌<◌, length};
+ghost use Rattle.std.specs.Prelude.{◌≡◌, ◌&&◌, leb, ltb, ◌+◌, ◌-◌, ◌≤◌, ◌<◌, List, length};
+ghost use Rattle.definition.specs.Base.{Name};
 ghost use Rattle.definition.specs.Text.{Text};
 ghost use Rattle.definition.specs.Words as W;
-ghost use Rattle.definition.specs.Check as C;
-ghost use Rattle.text_words.specs.Table.{part, table, Fitting, Holds, Turns};
+ghost use Rattle.text_words.specs.Table.{part, Lists, Turns};
 
+use crate::spans::{Span, Spans};
 use text_cursor::{is_digit, is_upper};
 
-// The words: where each starts in the text, and how long it is.
-#[derive(Clone, Copy)]
-pub struct Words {
-    pub starts: [u16; 26],
-    pub lengths: [u16; 26],
-    pub count: usize,
+// The words, of which at most 26 are kept.
+pub type Words = Spans<26>;
+
+// What is known of the words of a text: the words, or their number.
+pub trait Known {
+    // These are the words.
+    ghost stands: { Text → Self → List Name → Type 0 };
+
+    // Returns how many words are known.
+    fn count(&self) -> usize
+        ensures { (text : Text) (words : List Name) → stands text self.now words → result ≡ length words };
+
+    // Keeps the word text[start..end], if it has 2 bytes or more and there is room.
+    fn keep(&mut self, start: usize, end: usize)
+        requires { (start ≤ end) × (end ≤ 65535) }
+        ensures { (text : Text) (words : List Name) → end ≤ length text → stands text self.old words → stands text self.new (W.keep (part text start end) words) };
 }
 
-impl Words {
-    pub fn new() -> Words
-        ensures { (text : Text) → (table text result ≡ []) × Fitting text result }
-    {
-        Words {
-            starts: [0; 26],
-            lengths: [0; 26],
-            count: 0,
+const MOST_WORDS: usize = 26;
+
+const SHORTEST_WORD: usize = 2;
+
+// Whether one more word text[start..end] is kept.
+fn is_kept(count: usize, start: usize, end: usize) -> bool
+    requires { start ≤ end }
+    ensures { result ≡ (leb 2 (end - start) && ltb count 26) }
+{
+    SHORTEST_WORD <= end - start && count < MOST_WORDS
+}
+
+impl Known for Words {
+    ghost stands = { Lists };
+
+    fn count(&self) -> usize {
+        self.len()
+    }
+
+    fn keep(&mut self, start: usize, end: usize) {
+        if is_kept(self.len(), start, end) {
+            self.push(Span::new(start, end));
+        }
+    }
+}
+
+impl Known for usize {
+    ghost stands = { λ text n words. n ≡ length words };
+
+    fn count(&self) -> usize {
+        *self
+    }
+
+    fn keep(&mut self, start: usize, end: usize) {
+        if is_kept(*self, start, end) {
+            *self += 1;
         }
     }
 }
@@ -36,24 +77,7 @@ impl Words {
 fn starts_word(b: u8) -> bool
     ensures { result ≡ W.starts b }
 {
-    if is_digit(b) {
-        return false;
-    }
-    b != 95
-}
-
-// Whether a word is kept: it has ended, it has 2 bytes or more, and there is room.
-fn is_kept(ended: bool, count: usize, start: usize, at: usize) -> bool
-    requires { start ≤ at }
-    ensures { result ≡ (ended && (leb 2 (at - start) && ltb count 26)) }
-{
-    if !ended {
-        return false;
-    }
-    if at - start < 2 {
-        return false;
-    }
-    count < 26
+    !is_digit(b) && b != b'_'
 }
 
 // The effect of a byte on the open word.
@@ -63,44 +87,33 @@ struct Boundary {
     pub start: usize,
 }
 
-// One turn of the loops below: the byte b at a place, after the byte `previous`. The open word
+// One turn of the loop below: the byte b at a place, after the byte `previous`. The open word
 // begins at `start`.
 fn turn(start: usize, at: usize, previous: u8, b: u8) -> Boundary
     requires { (start ≤ at) × (at < 65535) }
     ensures { Turns start at previous b result }
 {
     if start == at {
-        if starts_word(b) {
-            return Boundary {
-                ended: false,
-                start: at,
-            };
-        }
-        return Boundary {
-            ended: false,
-            start: at + 1,
-        };
-    }
-    // neither a capital nor `_`: most bytes
-    if 95 < b {
+        let start = if starts_word(b) { at } else { at + 1 };
         return Boundary {
             ended: false,
             start,
         };
     }
-    if b == 95 {
+    // neither a capital nor `_`: most bytes
+    if b'_' < b {
+        return Boundary {
+            ended: false,
+            start,
+        };
+    }
+    if b == b'_' {
         return Boundary {
             ended: true,
             start: at + 1,
         };
     }
-    if is_upper(previous) {
-        return Boundary {
-            ended: false,
-            start,
-        };
-    }
-    if is_upper(b) {
+    if !is_upper(previous) && is_upper(b) {
         return Boundary {
             ended: true,
             start: at,
@@ -112,67 +125,21 @@ fn turn(start: usize, at: usize, previous: u8, b: u8) -> Boundary
     }
 }
 
-// Appends the words of text[from..to] to the table. A word is stored at two places in this code,
-// not by a function, because the table would be copied for the call.
-pub fn note_words(text: &[u8], from: usize, to: usize, w: Words) -> Words
-    requires { (from ≤ to) × ((to ≤ length text.now) × ((length text.now ≤ 65535) × Fitting text.now w)) }
-    ensures { Holds text.now (W.note_words (part text.now from to) (table text.now w)) w result }
+// Notes the words of text[from..to].
+pub fn note<K: Known>(text: &[u8], from: usize, to: usize, known: &mut K)
+    requires { (from ≤ to) × (to ≤ length text.now) × (length text.now ≤ 65535) }
+    ensures { (words : List Name) → K.stands text.now known.old words → K.stands text.now known.new (W.note_words (part text.now from to) words) }
 {
-    let mut known = w;
     let mut start = from;
-    let mut previous: u8 = 0;
-    let mut at = from;
-    while at < to {
-        let b = text[at];
-        let next = turn(start, at, previous, b);
-        let count = known.count;
-        if is_kept(next.ended, count, start, at) {
-            known.starts[count] = start as u16;
-            known.lengths[count] = (at - start) as u16;
-            known.count = count + 1;
-        }
-        start = next.start;
-        previous = b;
-        at += 1;
-    }
-    let count = known.count;
-    if is_kept(true, count, start, to) {
-        known.starts[count] = start as u16;
-        known.lengths[count] = (to - start) as u16;
-        known.count = count + 1;
-    }
-    known
-}
-
-// Counts one more word, where only the number of words is known.
-fn keep_count(known: usize, start: usize, end: usize) -> usize
-    requires { start ≤ end }
-    ensures { (result ≡ C.keep_count (end - start) known) × (known ≤ result) }
-{
-    if is_kept(true, known, start, end) {
-        return known + 1;
-    }
-    known
-}
-
-// Returns how many words are known after text[from..to].
-pub fn count_words(text: &[u8], from: usize, to: usize, count: usize) -> usize
-    requires { (from ≤ to) × ((to ≤ length text.now) × (length text.now ≤ 65535)) }
-    ensures { (result ≡ C.count_words_from 0 0 (part text.now from to) count) × (count ≤ result) }
-{
-    let mut known = count;
-    let mut start = from;
-    let mut previous: u8 = 0;
-    let mut at = from;
-    while at < to {
+    let mut previous = 0;
+    for at in from..to {
         let b = text[at];
         let next = turn(start, at, previous, b);
         if next.ended {
-            known = keep_count(known, start, at);
+            known.keep(start, at);
         }
         start = next.start;
         previous = b;
-        at += 1;
     }
-    keep_count(known, start, to)
+    known.keep(start, to);
 }

@@ -7,7 +7,7 @@ use native.Mathlib.Omega.{arith}
 use native.Mathlib.Nat.{mul-suc, add_comm}
 use Rattle.machine.proofs.budget.Charging.{charge_room, charged_to, copies_le}
 use lib.ListN.{get_or, replicate, get_elem?}
-use Rattle.definition.specs.Base.{ok, refused, Done}
+use Rattle.definition.specs.Base.{ok, refused}
 use Rattle.definition.specs.Enums.{number}
 use Rattle.definition.specs.Node.{Node, size}
 use Rattle.definition.specs.Budget as B
@@ -16,15 +16,13 @@ use Rattle.definition.specs.Machine.{machine, restack}
 use Rattle.definition.specs.Perform as R
 use Rattle.definition.specs.Perform.{Demangler}
 use Rattle.definition.specs.declared.Refusal.{Refusal}
-use Rattle.definition.specs.declared.Refusal.TheVariants as Refusal
 use Rattle.machine.specs.Spent.{budget_of}
 use Rattle.machine.specs.declared.budget.Budget.{Budget}
 use Rattle.tree_records.specs.Lies.{at, Lies}
 use Rattle.tree_records.specs.Holds.{Names, Named, Spare, Inside, Holds, Ready, Queue, Pushed, for_push}
 use Rattle.tree_records.specs.declared.State.{State}
 use Rattle.tree_nodes.specs.Gives.{nothing_spare}
-use Rattle.tree_nodes.specs.declared.Step.{Step}
-use Rattle.tree_nodes.specs.declared.Step.TheVariants as Step
+use Rattle.tree_nodes.specs.Results.{Step}
 use Rattle.tree_nodes.proofs.ByKind.{positive}
 use Rattle.machine.specs.Beyond.{beyond_itself}
 use Rattle.tree_nodes.proofs.Taking.{less_spare, keeps_itself}

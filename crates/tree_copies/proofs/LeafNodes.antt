@@ -5,31 +5,28 @@ use Prim.Native.Nat.{ℕ, ◌+◌, ◌≤◌, ◌<◌}
 use Prim.Native.String.{String}
 use native.Mathlib.Omega.{arith}
 use lib.ListN.{get_or}
-use Rattle.definition.specs.Base.{bytes, refused}
+use Rattle.definition.specs.Base.{bytes}
 use Rattle.definition.specs.Enums as Enums
 use Rattle.definition.specs.Enums.{number}
 use Rattle.definition.specs.Node as Nodes
 use Rattle.definition.specs.Node.{NominalKind, Node, Module, Nominal, EmptyList, FirstElementMarker, VariadicMarker, Throws, Async, kind, nominal_kind, size, sizes, many, count, view}
-use mathlib.Core.Option.{some}
 use Rattle.definition.specs.Machine as M
 use Rattle.definition.specs.Machine.{machine, restack}
 use Rattle.definition.specs.Perform as R
 use Rattle.definition.specs.Perform.{Demangler}
 use Rattle.definition.specs.Kind as K
 use Rattle.definition.specs.declared.Leaf.{Leaf}
-use Rattle.definition.specs.declared.Leaf.TheVariants as Leaf
 use Rattle.definition.specs.declared.NominalKind as NK
 use Rattle.definition.specs.declared.NominalKind.TheVariants as NKs
 use Rattle.definition.specs.declared.Param.{Param}
-use Rattle.definition.specs.declared.Refusal.TheVariants as Refusal
 use Rattle.tree_records.specs.Lies.{at, Lies, Would}
 use Rattle.tree_records.specs.Holds.{Fixed, Names, Named, Spare, Holds, Ready, Keeps, Grew, Pushed, Remembered, for_record, for_push, for_keeping}
 use Rattle.tree_records.specs.declared.State.{State}
-use Rattle.machine.specs.Beyond.{Beyond}
 use Rattle.tree_nodes.specs.Gives.{spare, nothing_spare, full_spare, taken, Makes, Given, Gives, Operates, WrapsTo}
-use Rattle.tree_nodes.specs.declared.Placed.{Placed}
-use Rattle.tree_nodes.specs.declared.Step.{Step}
-use Rattle.tree_nodes.specs.declared.Step.TheVariants as Step
+use Rattle.tree_nodes.specs.Results.{Placed}
+use Rattle.tree_nodes.specs.Results.{Step}
+use Rattle.tree_records.specs.Trees.{Stays}
+use Rattle.tree_records.specs.declared.Trees.{Trees}
 use Rattle.tree_nodes.proofs.Taking.{less_spare}
 use Rattle.tree_nodes.proofs.Leaving.{keeps_then, beyond_then}
 use Rattle.tree_copies.specs.Copies.{for_optional, optional_copies, ReadyTree, Went, Copied, Optioned}
@@ -258,14 +255,21 @@ optional_done {w} {w₁} {w₂} {N} {st} {u} {v} {p} times (Step.Refused e) a b 
   long = c.beyond.long ∙ b.keeps.long;
 }
 
-pub optional_missing : {w w₁ : List ℕ} {N : ℕ} {st u : State} (times : ℕ) → WrapsTo w N st u → ((nm : Names) (sp : Spare) (m : Demangler) → Holds nm w N u sp m → R.pop_if K.is_type m ≡ refused 10) × Beyond 64 N w w₁ → Operates (λ _. R.optional N times) w w₁ N st (Step.Refused Refusal.Stack)
-unfolding R.optional number
-optional_missing times a b = record {
-  runs = λ nm m f h. let i = a.gives nm full_spare m h in rw (i.1, b.0 nm full_spare i.0 i.2) refl;
-  past = b.1.past;
-  long = b.1.long;
+-- the four records on `Trees`
+pub option_of : {t t₁ t₂ t₃ t₄ : Trees} {p base cell whole z : ℕ} → p < t.state.top → z ≡ at t₂.ws.now p 1 + 3 →
+    Stays t t₁ → Makes (λ names. Nominal (Enums.nominal_kind NKs.Enum) (Module (bytes "Swift")) (bytes (names 28))) 4 t.ws.now t₁.ws.now t.n t.state (record { place = base; next = t₁.state }) →
+    Stays t₁ t₂ → Grew t₁.ws.now t₂.ws.now t₁.n t₁.state t₂.state (0 ∷ 0 ∷ 0 ∷ 4294967295 ∷ p ∷ 0 ∷ 0 ∷ 0 ∷ []) → cell ≡ t₁.state.top →
+    Stays t₂ t₃ → Grew t₂.ws.now t₃.ws.now t₂.n t₂.state t₃.state (18 ∷ z ∷ 0 ∷ base ∷ 1 ∷ cell ∷ 0 ∷ 0 ∷ []) → whole ≡ t₂.state.top →
+    Stays t₃ t₄ → Remembered t₃.ws.now t₄.ws.now t₃.n t₃.state t₄.state whole →
+    Option t.ws.now t₁.ws.now t₂.ws.now t₃.ws.now t₄.ws.now t.n t.state t₂.state t₃.state t₄.state (record { place = base; next = t₁.state }) p z cell p base
+option_of l ez s₁ m s₂ g₁ e₁ s₃ g₂ e₂ s₄ k = record {
+  low = l;
+  size_is = ez;
+  child = refl;
+  base = refl;
+  first = e₁;
+  nominal = enum_made m;
+  cell_made = rw s₁.ceiling at g₁;
+  made = rw (s₂.ceiling, s₁.ceiling) at g₂;
+  kept = rw (s₃.ceiling, s₂.ceiling, s₁.ceiling, e₂) at k;
 }
-
-pub optional_unwrapped : {w : List ℕ} {N : ℕ} {st : State} (times : ℕ) → ((nm : Names) (sp : Spare) (m : Demangler) → Holds nm w N st sp m → M.wrap m ≡ refused 8) → Operates (λ _. R.optional N times) w w N st (Step.Refused Refusal.Nesting)
-unfolding R.optional number
-optional_unwrapped times a = record { runs = λ nm m f h. rw (a nm full_spare m h) refl; past = λ i h. refl; long = refl }

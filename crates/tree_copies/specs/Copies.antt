@@ -12,8 +12,7 @@ use Rattle.tree_records.specs.Holds.{Fixed, Names, Named, Spare, Holds, Keeps}
 use Rattle.tree_records.specs.declared.State.{State}
 use Rattle.machine.specs.Beyond.{Beyond}
 use Rattle.tree_nodes.specs.Gives.{spare}
-use Rattle.tree_nodes.specs.declared.Step.{Step}
-use Rattle.tree_nodes.specs.declared.Step.TheVariants as Step
+use Rattle.tree_nodes.specs.Results.{Step}
 
 -- what may be spent on that many pushes of a tree of size z
 abbrev pub for_pushes : (times z : ℕ) → Spare → Spare

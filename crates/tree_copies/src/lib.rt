@@ -5,162 +5,148 @@ ghost use Rattle.std.specs.Prelude.{◌≡◌, List, [], ◌∷◌, ℕ, ◌+◌
 ghost use Rattle.definition.specs.Enums as Enums;
 ghost use Rattle.definition.specs.Perform as R;
 ghost use Rattle.definition.specs.Machine.{push};
+ghost use Rattle.machine.specs.Kinds.{kind_of};
 ghost use Rattle.tree_records.specs.Lies.{at};
-ghost use Rattle.tree_records.specs.Holds.{Inside, Ready, Grew};
-ghost use Rattle.tree_nodes.specs.Gives.{spare, nothing_spare, full_spare, Makes, Operates};
+ghost use Rattle.tree_records.specs.Holds.{Inside, Grew};
+ghost use Rattle.tree_records.specs.Trees.{Stays, Has};
+ghost use Rattle.tree_nodes.specs.Gives.{spare, nothing_spare, full_spare};
+ghost use Rattle.tree_nodes.specs.Trees.{Makes, Operates, step_of};
 ghost use Rattle.tree_copies.specs.Copies.{Pushes, Copied, Recalled, ReadyTree, Optioned};
 
 use definition::{Leaf, NominalKind, Refusal};
-use machine::budget::Spent;
-use machine::kinds::Want;
-use tree_nodes::{Placed, Step, WrapSpent};
-use tree_records::{Fields, Popped, State};
+use machine::kinds::{Kind, Want};
+use tree_nodes::fixed_number;
+use tree_nodes::leave::{generic_param, standard_nominal, wrap};
+use tree_nodes::take::pop_if;
+use tree_records::{Record, Trees};
 
-// Makes a node of one record without a child. It has one number, or none.
-fn lone(ws: &mut [u32], n: usize, st: State, kind: u32, a: u32) -> Placed
-    requires { Inside ws.old n st 2 0 0 }
-    ensures { Grew ws.old ws.new n st result.next (kind ∷ 1 ∷ 0 ∷ a ∷ 0 ∷ 0 ∷ 0 ∷ 0 ∷ []) × (result.place ≡ st.top) }
+// The number of the fixed name Optional.
+const OPTIONAL: usize = 28;
+
+// Makes a node of one record without a child, and returns its place. It has one number, or none.
+fn lone(trees: &mut Trees, kind: Kind, a: u32) -> usize
+    requires { Inside trees.old.ws.now trees.old.n trees.old.state 2 0 0 }
+    ensures stays { Stays trees.old trees.new }
+    ensures grew { Grew trees.old.ws.now trees.new.ws.now trees.old.n trees.old.state trees.new.state (kind_of kind ∷ 1 ∷ 0 ∷ a ∷ 0 ∷ 0 ∷ 0 ∷ 0 ∷ []) }
+    ensures place { result ≡ trees.old.state.top }
 {
-    let top = st.top;
-    let rest = Fields {
-        a: a,
-        b: 0,
-        c: 0,
-        d: 0,
-        e: 0,
-    };
-    Placed {
-        place: top,
-        next: tree_records::grow(ws, n, st, kind, 1, 0, rest),
-    }
+    trees.grow(Record {
+        kind,
+        size: 1,
+        a,
+        ..Record::ZERO
+    })
 }
 
-// Makes the node of a leaf.
-pub fn leaf(ws: &mut [u32], n: usize, st: State, l: Leaf) -> Placed
-    requires { Inside ws.old n st 4 0 0 }
-    ensures { Makes (λ fixed. R.leaf_node (Enums.leaf fixed l)) 4 ws.old ws.new n st result }
+// Makes the node of a leaf, and returns its place.
+pub fn leaf(trees: &mut Trees, l: Leaf) -> usize
+    requires { Inside trees.old.ws.now trees.old.n trees.old.state 4 0 0 }
+    ensures stays { Stays trees.old trees.new }
+    ensures makes { Makes (λ fixed. R.leaf_node (Enums.leaf fixed l)) 4 trees.old trees.new result }
 {
     match l {
-        Leaf::Module(name) => lone(ws, n, st, 1, tree_nodes::fixed_number(name)),
-        Leaf::StandardNominal(kind, name) => tree_nodes::standard_nominal(ws, n, st, kind, name),
-        Leaf::GenericParam(p) => tree_nodes::generic_param(ws, n, st, p),
-        Leaf::EmptyList => lone(ws, n, st, 30, 0),
-        Leaf::FirstElementMarker => lone(ws, n, st, 31, 0),
-        Leaf::VariadicMarker => lone(ws, n, st, 32, 0),
-        Leaf::Throws => lone(ws, n, st, 33, 0),
-        Leaf::Async => lone(ws, n, st, 34, 0),
+        Leaf::Module(name) => lone(trees, Kind::Module, fixed_number(name)),
+        Leaf::StandardNominal(kind, name) => standard_nominal(trees, kind, name),
+        Leaf::GenericParam(p) => generic_param(trees, p),
+        Leaf::EmptyList => lone(trees, Kind::EmptyList, 0),
+        Leaf::FirstElementMarker => lone(trees, Kind::FirstElementMarker, 0),
+        Leaf::VariadicMarker => lone(trees, Kind::VariadicMarker, 0),
+        Leaf::Throws => lone(trees, Kind::Throws, 0),
+        Leaf::Async => lone(trees, Kind::Async, 0),
     }
 }
 
 // Pushes a leaf.
-pub fn push_leaf(ws: &mut [u32], n: usize, st: State, l: Leaf) -> Step
-    requires { Ready ws.old n st full_spare }
-    ensures { Operates (λ fixed. push (R.leaf_node (Enums.leaf fixed l))) ws.old ws.new n st result }
+pub fn push_leaf(trees: &mut Trees, l: Leaf)
+    requires { Has trees.old full_spare }
+    ensures stays { Stays trees.old trees.new }
+    ensures operates { Operates (λ fixed. push (R.leaf_node (Enums.leaf fixed l))) trees.old trees.new (Ok tt) }
 {
-    let made = leaf(ws, n, st, l);
-    Step::Done(tree_records::push(ws, n, made.next, made.place))
+    let place = leaf(trees, l);
+    trees.push(place);
 }
 
-// Pushes the place p that many times.
-fn push_copies(ws: &mut [u32], n: usize, st: State, times: usize, p: usize) -> State
-    requires inside { Inside ws.old n st (3 * times) times 0 }
-    requires p_bound { p < 2 ^ 32 }
-    ensures { Pushes ws.old ws.new n st result p times }
+// Pushes a place that many times.
+fn push_copies(trees: &mut Trees, times: usize, place: usize)
+    requires inside { Inside trees.old.ws.now trees.old.n trees.old.state (3 * times) times 0 }
+    requires place_bound { place < 2 ^ 32 }
+    ensures stays { Stays trees.old trees.new }
+    ensures pushes { Pushes trees.old.ws.now trees.new.ws.now trees.old.n trees.old.state trees.new.state place times }
 {
-    let mut next = st;
-    let mut i = 0;
-    while i < times {
-        next = tree_records::push(ws, n, next, p);
-        i += 1;
+    for _i in 0..times {
+        trees.push(place);
     }
-    next
 }
 
-// Pushes that many copies of the tree at place p, each charged its size.
-pub fn copied(ws: &mut [u32], n: usize, st: State, times: usize, p: usize) -> Step
-    requires ready { Ready ws.old n st nothing_spare }
-    requires p_lt_top { (p < st.top) × (1 ≤ at ws.old p 1) }
-    ensures { Copied ws.old ws.new n st times p result }
+// Pushes that many copies of the tree at a place, each charged its size.
+pub fn copied(trees: &mut Trees, times: usize, place: usize) -> Result<(), Refusal>
+    requires ready { Has trees.old nothing_spare }
+    requires place_lt_top { (place < trees.old.state.top) × (1 ≤ at trees.old.ws.now place 1) }
+    ensures stays { Stays trees.old trees.new }
+    ensures copied { Copied trees.old.ws.now trees.new.ws.now trees.old.n trees.old.state times place (step_of result trees.new.state) }
 {
-    let size = tree_records::wide(tree_records::field(ws, p, 1));
-    let budget = st.budget;
-    match budget.charge_copies(n, size, times) {
-        Spent::Left(left) => {
-            let next = State {
-                budget: left,
-                top: st.top,
-                depth: st.depth,
-                seen: st.seen,
-            };
-            Step::Done(push_copies(ws, n, next, times, p))
-        }
-        Spent::Refused(r) => Step::Refused(r),
-    }
+    let size = trees.field(place, Record::SIZE) as usize;
+    trees.state.budget = trees.state.budget.charge_copies(trees.n, size, times)?;
+    push_copies(trees, times, place);
+    Ok(())
 }
 
 // `S`: pushes that many copies of a leaf.
-pub fn standard(ws: &mut [u32], n: usize, st: State, repeat: usize, l: Leaf) -> Step
-    requires { Ready ws.old n st full_spare }
-    ensures { Operates (λ fixed. R.copied n repeat (R.leaf_node (Enums.leaf fixed l))) ws.old ws.new n st result }
+pub fn standard(trees: &mut Trees, repeat: usize, l: Leaf) -> Result<(), Refusal>
+    requires { Has trees.old full_spare }
+    ensures stays { Stays trees.old trees.new }
+    ensures operates { Operates (λ fixed. R.copied trees.old.n repeat (R.leaf_node (Enums.leaf fixed l))) trees.old trees.new result }
 {
-    let made = leaf(ws, n, st, l);
-    copied(ws, n, made.next, repeat, made.place)
+    let place = leaf(trees, l);
+    copied(trees, repeat, place)
 }
 
 // A letter of `A`: pushes that many copies of a remembered node, which is given by its index.
-pub fn recall(ws: &mut [u32], n: usize, st: State, times: usize, index: usize) -> Step
-    requires { Ready ws.old n st nothing_spare }
-    ensures { Recalled ws.old ws.new n st times index result }
+pub fn recall(trees: &mut Trees, times: usize, index: usize) -> Result<(), Refusal>
+    requires { Has trees.old nothing_spare }
+    ensures stays { Stays trees.old trees.new }
+    ensures recalled { Recalled trees.old.ws.now trees.new.ws.now trees.old.n trees.old.state times index (step_of result trees.new.state) }
 {
-    let seen = st.seen;
-    if seen <= index {
-        return Step::Refused(Refusal::Spelling);
+    if trees.state.seen <= index {
+        return Err(Refusal::Spelling);
     }
-    let p = tree_records::wide(ws[61 * n + index]);
-    copied(ws, n, st, times, p)
+    let place = trees.ws[61 * trees.n + index] as usize;
+    copied(trees, times, place)
 }
 
-// Makes `Optional` of the type at place p, remembers it, and pushes that many copies of it.
-fn optional_of(ws: &mut [u32], n: usize, st: State, repeat: usize, p: usize) -> Step
-    requires ready_tree { ReadyTree ws.old n st (spare 8 0 0 1) p }
-    requires p_lt_top { (p < st.top) × (at ws.old p 1 ≤ 262144) }
-    ensures { Optioned ws.old ws.new n st repeat p result }
+// Makes `Optional` of the type at a place, remembers it, and pushes that many copies of it.
+fn optional_of(trees: &mut Trees, repeat: usize, place: usize) -> Result<(), Refusal>
+    requires ready_tree { ReadyTree trees.old.ws.now trees.old.n trees.old.state (spare 8 0 0 1) place }
+    requires place_lt_top { (place < trees.old.state.top) × (at trees.old.ws.now place 1 ≤ 262144) }
+    ensures stays { Stays trees.old trees.new }
+    ensures optioned { Optioned trees.old.ws.now trees.new.ws.now trees.old.n trees.old.state repeat place (step_of result trees.new.state) }
 {
-    let base = tree_nodes::standard_nominal(ws, n, st, NominalKind::Enum, 28);
-    let u = base.next;
-    let cell = u.top;
-    let one = Fields {
-        a: 4294967295,
-        b: p as u32,
-        c: 0,
-        d: 0,
-        e: 0,
-    };
-    let v = tree_records::grow(ws, n, u, 0, 0, 0, one);
-    let size = tree_records::field(ws, p, 1);
-    let top = v.top;
-    let rest = Fields {
-        a: base.place as u32,
+    let base = standard_nominal(trees, NominalKind::Enum, OPTIONAL);
+    let cell = trees.grow(Record {
+        a: Record::NO_LABEL,
+        b: place as u32,
+        ..Record::ZERO
+    });
+    let size = trees.field(place, Record::SIZE) + 3;
+    let whole = trees.grow(Record {
+        kind: Kind::BoundGeneric,
+        size,
+        a: base as u32,
         b: 1,
         c: cell as u32,
-        d: 0,
-        e: 0,
-    };
-    let x = tree_records::grow(ws, n, v, 18, size + 3, 0, rest);
-    let y = tree_records::remember(ws, n, x, top);
-    copied(ws, n, y, repeat, top)
+        ..Record::ZERO
+    });
+    trees.remember(whole);
+    copied(trees, repeat, whole)
 }
 
 // `Sg`: counts one wrap, and pushes that many copies of `Optional` of the type on top.
-pub fn optional(ws: &mut [u32], n: usize, st: State, repeat: usize) -> Step
-    requires { Ready ws.old n st full_spare }
-    ensures { Operates (λ _. R.optional n repeat) ws.old ws.new n st result }
+pub fn optional(trees: &mut Trees, repeat: usize) -> Result<(), Refusal>
+    requires { Has trees.old full_spare }
+    ensures stays { Stays trees.old trees.new }
+    ensures operates { Operates (λ _. R.optional trees.old.n repeat) trees.old trees.new result }
 {
-    match tree_nodes::wrap(st) {
-        WrapSpent::Next(u) => match tree_nodes::pop_if(ws, n, u, Want::Type) {
-            Popped::Place(p, v) => optional_of(ws, n, v, repeat, p),
-            Popped::Nothing => Step::Refused(Refusal::Stack),
-        },
-        WrapSpent::Refused => Step::Refused(Refusal::Nesting),
-    }
+    wrap(trees)?;
+    let place = pop_if(trees, Want::Type)?;
+    optional_of(trees, repeat, place)
 }

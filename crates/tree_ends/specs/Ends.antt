@@ -1,5 +1,5 @@
 -- What is left at the end of the reading's run. Assumes nothing.
-use Rattle.std.specs.Prelude.{◌≡◌, List, ℕ, ◌-◌, ◌<◌}
+use Rattle.std.specs.Prelude.{◌≡◌, List, ℕ, ◌<◌}
 use Rattle.definition.specs.Perform.{Demangler}
 use Rattle.definition.specs.Calls.{single}
 use Rattle.tree_records.specs.Holds.{Names, Named, Holds}
@@ -8,8 +8,7 @@ use Rattle.machine.specs.RunEnds.{kinds_of}
 use Rattle.machine.specs.declared.runs.Final.{Final}
 use Rattle.definition.specs.Node.{Node, kind}
 use Rattle.std.proofs.Math.Option.{some, none}
-use Rattle.tree_ends.specs.declared.Sole.{Sole}
-use Rattle.tree_ends.specs.declared.Sole.TheVariants as Sole
+use Rattle.std.specs.Prelude.{Option, Some, None}
 use Rattle.tree_records.specs.declared.State.{State}
 use Rattle.tree_nodes.specs.Gives.{nothing_spare}
 
@@ -20,6 +19,6 @@ pub record SingleAt (w : List ℕ) (N : ℕ) (st : State) (what : Final) (p : �
   pub below : p < st.top
   pub lies : Lies (Named nm) tree w p
 
-abbrev pub Singles : (w : List ℕ) (N : ℕ) (st : State) → Final → Sole → Type 0
-Singles w N st what (Sole.At p) = (nm : Names) (m : Demangler) → Holds nm w N st nothing_spare m → SingleAt w N st what p nm m
-Singles w N st what Sole.Nothing = (nm : Names) (m : Demangler) → Holds nm w N st nothing_spare m → single kind (kinds_of what) m.stack ≡ none
+abbrev pub Singles : (w : List ℕ) (N : ℕ) (st : State) → Final → Option ℕ → Type 0
+Singles w N st what (Some p) = (nm : Names) (m : Demangler) → Holds nm w N st nothing_spare m → SingleAt w N st what p nm m
+Singles w N st what None = (nm : Names) (m : Demangler) → Holds nm w N st nothing_spare m → single kind (kinds_of what) m.stack ≡ none

@@ -11,53 +11,39 @@ ghost use Rattle.machine.specs.RunEnds.{Writing};
 ghost use Rattle.tree_nodes.specs.Gives.{nothing_spare};
 ghost use Rattle.tree_ends.specs.Ends.{Singles};
 
-use machine::runs::{Final, Written};
-use tree_records::State;
+use machine::runs::{Final, takes};
+use tree_records::{Record, State, field, wide};
 
-// The place of the only tree that is left, if its kind is accepted.
-#[derive(Clone, Copy)]
-pub enum Sole {
-    At(usize),
-    Nothing,
-}
-
-// Returns the only tree that is left, if its kind is accepted.
-pub fn single(ws: &[u32], n: usize, st: State, what: Final) -> Sole
+// Returns the place of the only tree that is left, if its kind is accepted.
+pub fn single(ws: &[u32], n: usize, st: State, what: Final) -> Option<usize>
     requires { Ready ws.now n st nothing_spare }
     ensures { Singles ws.now n st what result }
 {
-    let depth = st.depth;
-    if depth != 1 {
-        return Sole::Nothing;
+    if st.depth != 1 {
+        return None;
     }
-    let p = tree_records::wide(ws[60 * n]);
-    if machine::runs::takes(what, tree_records::field(ws, p, 0)) {
-        return Sole::At(p);
+    let place = wide(ws[60 * n]);
+    if !takes(what, field(ws, place, Record::KIND)) {
+        return None;
     }
-    Sole::Nothing
+    Some(place)
 }
 
 // Writes the entries of the stack, three numbers each, in the order in which they were pushed: the
 // kind, size and count of each tree.
-pub fn write_stack(ws: &[u32], n: usize, st: State, out: &mut [u32]) -> Written
+pub fn write_stack(ws: &[u32], n: usize, st: State, out: &mut [u32]) -> Option<usize>
     requires { Ready ws.now n st nothing_spare }
     ensures { (nm : Names) (m : R.Demangler) → Holds nm ws.now n st nothing_spare m → Writing (Calls.entry_numbers (map entry_of (reverse m.stack))) out.old out.new result }
 {
-    let depth = st.depth;
-    let numbers = 3 * depth;
+    let numbers = 3 * st.depth;
     if out.len() < numbers {
-        return Written::Past;
+        return None;
     }
-    let mut j = 0;
-    while j < depth {
-        let p = tree_records::wide(ws[60 * n + j]);
-        let kind = tree_records::field(ws, p, 0);
-        let size = tree_records::field(ws, p, 1);
-        let count = tree_records::field(ws, p, 2);
-        out[3 * j] = kind;
-        out[3 * j + 1] = size;
-        out[3 * j + 2] = count;
-        j += 1;
+    for j in 0..st.depth {
+        let place = wide(ws[60 * n + j]);
+        out[3 * j] = field(ws, place, Record::KIND);
+        out[3 * j + 1] = field(ws, place, Record::SIZE);
+        out[3 * j + 2] = field(ws, place, Record::COUNT);
     }
-    Written::Numbers(numbers)
+    Some(numbers)
 }

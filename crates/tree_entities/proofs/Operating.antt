@@ -1,13 +1,13 @@
 -- The operators of variables, initializers and functions: a type under a signature, what follows
 -- it, and the record of the entity.
-use mathlib.Core.Path.{◌≡◌, refl, sym, ap, ◌∙◌, subst}
+use mathlib.Core.Path.{◌≡◌, refl, sym, ap, ◌∙◌}
 use mathlib.Core.Bool.{Bool}
 use mathlib.Core.List.{List, ◌∷◌}
 use mathlib.Core.Option.{Option}
 use Prim.Native.Nat.{ℕ, ◌+◌, ◌≤◌, ◌<◌}
 use Prim.Native.String.{String}
 use native.Mathlib.Omega.{arith}
-use Rattle.definition.specs.Base.{Late, Out, ok, refused, and_then, ◌>>=◌, ◌>>◌, Done}
+use Rattle.definition.specs.Base.{Late, Out, ok, refused, and_then, ◌>>=◌, Done}
 use Rattle.definition.specs.Kind as K
 use Rattle.definition.specs.Enums.{number}
 use Rattle.definition.specs.Node.{Labels, Node, Function, Variable, Initializer, kind, size, count, view}
@@ -16,29 +16,25 @@ use Rattle.definition.specs.Perform as R
 use Rattle.definition.specs.Perform.{Demangler, Run}
 use Rattle.definition.specs.declared.Accessor.{Accessor}
 use Rattle.definition.specs.declared.Refusal.{Refusal}
-use Rattle.definition.specs.declared.Refusal.TheVariants as Refusal
 use Rattle.tree_records.specs.Lies.{at, flag, Lies, LabelList}
 use Rattle.tree_records.specs.Holds.{Names, Named, Spare, Inside, Holds, Ready, Keeps, for_record, for_push}
 use Rattle.tree_records.specs.declared.State.{State}
-use Rattle.tree_nodes.specs.declared.Marked.{Marked}
-use Rattle.tree_nodes.specs.declared.Step.{Step}
-use Rattle.tree_nodes.specs.declared.Step.TheVariants as Step
+use Rattle.tree_nodes.specs.Results.{Marked}
+use Rattle.tree_nodes.specs.Results.{Step}
 use Rattle.machine.specs.Beyond.{Beyond}
 use Rattle.tree_nodes.specs.Gives.{spare, nothing_spare, full_spare, for_nodes, taken, most, Given, Gives, GivesName, Marks, Operates, Left}
 use Rattle.tree_nodes.proofs.Taking.{less_spare}
 use Rattle.tree_nodes.proofs.Ready.{after_given, after_mark, after_name, room}
-use Rattle.tree_entities.specs.LabelsOf.{Treed, GivesLabels, TakesLabels}
+use Rattle.tree_entities.specs.LabelsOf.{Treed, GivesLabels}
 use Rattle.tree_parts.specs.Leaves.{Entity, letter, variable_end, LeavesVariable}
-use Rattle.tree_entities.specs.Entities.{variable_type, signed_type, GivesType, TakesType}
-use Rattle.tree_entities.specs.declared.labels.LabelsTaken.{LabelsTaken}
-use Rattle.tree_entities.specs.declared.labels.LabelsTaken.TheVariants as LabelsTaken
-use Rattle.tree_nodes.specs.declared.Built.{Built}
-use Rattle.tree_nodes.specs.declared.Built.TheVariants as Built
+use Rattle.tree_records.specs.Trees.{Stays, Has}
+use Rattle.tree_records.specs.declared.Trees.{Trees}
+use Rattle.tree_entities.specs.Entities.{variable_type, signed_type, GivesType}
 use Rattle.tree_entities.proofs.labels.LabelLists.{assoc, labels_stay}
-use Rattle.tree_parts.proofs.entity.Leavings.{Kids, in_field_4, in_field_5, entity_size, entity_record, named}
+use Rattle.tree_parts.proofs.entity.Leavings.{Kids, in_field_4, in_field_5, entity_size, entity_record}
 
 -- WHAT WAS TAKEN
-abbrev after_type : Spare
+abbrev pub after_type : Spare
 after_type = spare 15 1 0 1
 
 module _ {f : Run Node} {own gain : ℕ} {w w₁ : List ℕ} {N : ℕ} {st u : State} {p : ℕ} (g : GivesType f own gain w w₁ N st p u) (l : own ≤ 4) (q : Ready w N st full_spare) where
@@ -53,13 +49,6 @@ module _ {f : Run Node} {own gain : ℕ} {w w₁ : List ℕ} {N : ℕ} {st u : S
 
   pub typed_small : at w₁ p 1 ≤ most
   typed_small = let h = typed.holds in omega (arith, h.light, h.charged, h.small, typed.lies.size_is)
-
--- the result of an arm
-pub typed_at : (f : Run Node) (own gain : ℕ) {w w' : List ℕ} {N : ℕ} {st : State} {r : Built} (p : ℕ) (u : State) → r ≡ Built.Place p u → TakesType f own gain w w' N st r → GivesType f own gain w w' N st p u
-typed_at f own gain {w} {w'} {N} {st} p u e h = subst (λ (x : Built). TakesType f own gain w w' N st x) e h
-
-pub typed_not : (f : Run Node) (own gain : ℕ) {w w' : List ℕ} {N : ℕ} {st : State} {r : Built} (e : Refusal) → r ≡ Built.Refused e → TakesType f own gain w w' N st r → ((nm : Names) (sp : Spare) (m : Demangler) → Holds nm w N st (for_nodes own sp) m → f m ≡ refused (number e)) × Beyond 64 N w w'
-typed_not f own gain {w} {w'} {N} {st} e q h = subst (λ (x : Built). TakesType f own gain w w' N st x) q h
 
 -- an operator that begins with a type, which is refused
 pub first_refused : (o : (ℕ → String) → Run Done) (f : Run Node) (k : (ℕ → String) → Node → Run Done) (own : ℕ) {w w' : List ℕ} {N : ℕ} {st : State} (e : Refusal) → own ≤ 4 → ((s : ℕ → String) (m : Demangler) → o s m ≡ and_then (f m) (k s)) →
@@ -83,8 +72,7 @@ variable_split l m = go (R.pop_if K.is_type m)
     go (ok t m₁) = sym (assoc (R.try_signature m₁) (λ s. R.under_signature s t) (variable_rest l))
 
 module _ {w w₁ : List ℕ} {N : ℕ} {st u₁ : State} {ty : ℕ} {b : Marked} (accessor : Accessor) (a : GivesType variable_type 1 3 w w₁ N st ty u₁) (k : Marks (R.took K.empty_list) w₁ N u₁ b) where
-  pub variable_nameless : ((nm : Names) (sp : Spare) (m : Demangler) → Holds nm w₁ N b.next sp m → R.pop_name m ≡ refused 10) → Operates (λ s. R.variable (letter s accessor)) w w₁ N st (Step.Refused Refusal.Stack)
-  unfolding number
+  pub variable_nameless : {r : Refusal} → ((nm : Names) (sp : Spare) (m : Demangler) → Holds nm w₁ N b.next sp m → R.pop_name m ≡ refused (number r)) → Operates (λ s. R.variable (letter s accessor)) w w₁ N st (Step.Refused r)
   variable_nameless c = record {
     runs = λ nm m i h.
         let t = a.gives nm (spare 15 1 3 1) m h in
@@ -95,8 +83,7 @@ module _ {w w₁ : List ℕ} {N : ℕ} {st u₁ : State} {ty : ℕ} {b : Marked}
   }
 
   module _ {name : ℕ} {u₂ : State} (d : GivesName R.pop_name w₁ N b.next name u₂) where
-    pub variable_alone : {w₂ : List ℕ} → ((nm : Names) (sp : Spare) (m : Demangler) → Holds nm w₁ N u₂ sp m → R.context m ≡ refused 10) × Beyond 64 N w₁ w₂ → Operates (λ s. R.variable (letter s accessor)) w w₂ N st (Step.Refused Refusal.Stack)
-    unfolding number
+    pub variable_alone : {r : Refusal} {w₂ : List ℕ} → ((nm : Names) (sp : Spare) (m : Demangler) → Holds nm w₁ N u₂ sp m → R.context m ≡ refused (number r)) × Beyond 64 N w₁ w₂ → Operates (λ s. R.variable (letter s accessor)) w w₂ N st (Step.Refused r)
     variable_alone c = record {
       runs = λ nm m i h.
           let t = a.gives nm (spare 15 1 3 1) m h in
@@ -160,19 +147,10 @@ signed_split f k m = go (R.try_signature m)
     go (refused r) = refl
     go (ok s m₁) = sym (assoc (f m₁) (λ t. R.under_signature s t) k)
 
--- the result of an arm
-module _ {w w' : List ℕ} {N : ℕ} {st : State} {ty : ℕ} {r : LabelsTaken} (h : (nm : Names) (x : Node) → Lies (Named nm) x w ty → TakesLabels nm (R.labels x) w w' N st r) where
-  pub labels_at : (first number : ℕ) (u : State) → r ≡ LabelsTaken.Labels first number u → (nm : Names) (x : Node) → Lies (Named nm) x w ty → GivesLabels nm (R.labels x) w w' N st first number u
-  labels_at first number u e nm x l = subst (λ (y : LabelsTaken). TakesLabels nm (R.labels x) w w' N st y) e (h nm x l)
-
-  pub labels_not : r ≡ LabelsTaken.Nothing → (nm : Names) (x : Node) → Lies (Named nm) x w ty → ((sp : Spare) (m : Demangler) → Holds nm w N st sp m → R.labels x m ≡ refused 10) × Beyond 64 N w w'
-  labels_not e nm x l = subst (λ (y : LabelsTaken). TakesLabels nm (R.labels x) w w' N st y) e (h nm x l)
-
 -- the type, and the labels that it requires
 module _ {f : Run Node} {own gain : ℕ} {w w₁ : List ℕ} {N : ℕ} {st u₁ : State} {ty : ℕ} (a : GivesType f own gain w w₁ N st ty u₁) (low : own ≤ 4) where
   -- no labels
-  pub labelless : {w₂ : List ℕ} (o : Run Done) (k : Node → Labels → Run Done) → ((m : Demangler) → o m ≡ and_then (f m) (λ t. R.labels t >>= k t)) → Ready w N st full_spare → ((nm : Names) (x : Node) → Lies (Named nm) x w₁ ty → ((sp : Spare) (m : Demangler) → Holds nm w₁ N u₁ sp m → R.labels x m ≡ refused 10) × Beyond 64 N w₁ w₂) → Operates (λ _. o) w w₂ N st (Step.Refused Refusal.Stack)
-  unfolding number
+  pub labelless : {r : Refusal} {w₂ : List ℕ} (o : Run Done) (k : Node → Labels → Run Done) → ((m : Demangler) → o m ≡ and_then (f m) (λ t. R.labels t >>= k t)) → Ready w N st full_spare → ((nm : Names) (x : Node) → Lies (Named nm) x w₁ ty → ((sp : Spare) (m : Demangler) → Holds nm w₁ N u₁ sp m → R.labels x m ≡ refused (number r)) × Beyond 64 N w₁ w₂) → Operates (λ _. o) w w₂ N st (Step.Refused r)
   labelless o k e q c =
       let y = typed a low q in
       let b = (c q.names y.tree y.lies).1 in
@@ -231,12 +209,11 @@ initializer_split b m = signed_split (R.pop_if K.is_type) (λ t. R.labels t >>= 
 pub initializer_untyped : (b : Bool) {w w' : List ℕ} {N : ℕ} {st : State} (e : Refusal) → ((nm : Names) (sp : Spare) (m : Demangler) → Holds nm w N st (for_nodes 1 sp) m → signed_type (R.pop_if K.is_type) m ≡ refused (number e)) × Beyond 64 N w w' → Operates (λ _. R.initializer b) w w' N st (Step.Refused e)
 initializer_untyped b e c = first_refused (λ _. R.initializer b) (signed_type (R.pop_if K.is_type)) (λ _ t. R.labels t >>= initializer_rest b t) 1 e (omega arith) (λ s m. initializer_split b m) c
 
-pub initializer_labelless : (b : Bool) {w w₁ w₂ : List ℕ} {N : ℕ} {st u₁ : State} {ty : ℕ} → GivesType (signed_type (R.pop_if K.is_type)) 1 3 w w₁ N st ty u₁ → Ready w N st full_spare → ((nm : Names) (x : Node) → Lies (Named nm) x w₁ ty → ((sp : Spare) (m : Demangler) → Holds nm w₁ N u₁ sp m → R.labels x m ≡ refused 10) × Beyond 64 N w₁ w₂) → Operates (λ _. R.initializer b) w w₂ N st (Step.Refused Refusal.Stack)
+pub initializer_labelless : {r : Refusal} (b : Bool) {w w₁ w₂ : List ℕ} {N : ℕ} {st u₁ : State} {ty : ℕ} → GivesType (signed_type (R.pop_if K.is_type)) 1 3 w w₁ N st ty u₁ → Ready w N st full_spare → ((nm : Names) (x : Node) → Lies (Named nm) x w₁ ty → ((sp : Spare) (m : Demangler) → Holds nm w₁ N u₁ sp m → R.labels x m ≡ refused (number r)) × Beyond 64 N w₁ w₂) → Operates (λ _. R.initializer b) w w₂ N st (Step.Refused r)
 initializer_labelless b a q c = labelless a (omega arith) (R.initializer b) (initializer_rest b) (λ m. initializer_split b m) q c
 
 module _ (b : Bool) {w w₁ w₂ : List ℕ} {N : ℕ} {st u₁ u₂ : State} {ty first last : ℕ} (a : GivesType (signed_type (R.pop_if K.is_type)) 1 3 w w₁ N st ty u₁) (c : (nm : Names) (x : Node) → Lies (Named nm) x w₁ ty → GivesLabels nm (R.labels x) w₁ w₂ N u₁ first last u₂) (q : Ready w N st full_spare) where
-  pub initializer_alone : {w₃ : List ℕ} → ((nm : Names) (sp : Spare) (m : Demangler) → Holds nm w₂ N u₂ sp m → R.context m ≡ refused 10) × Beyond 64 N w₂ w₃ → Operates (λ _. R.initializer b) w w₃ N st (Step.Refused Refusal.Stack)
-  unfolding number
+  pub initializer_alone : {r : Refusal} {w₃ : List ℕ} → ((nm : Names) (sp : Spare) (m : Demangler) → Holds nm w₂ N u₂ sp m → R.context m ≡ refused (number r)) × Beyond 64 N w₂ w₃ → Operates (λ _. R.initializer b) w w₃ N st (Step.Refused r)
   initializer_alone d =
       let k = labels_keep a (omega arith) c q in
       record {
@@ -294,12 +271,11 @@ function_split m = signed_split R.function_type (λ t. R.labels t >>= function_r
 pub function_untyped : {w w' : List ℕ} {N : ℕ} {st : State} (e : Refusal) → ((nm : Names) (sp : Spare) (m : Demangler) → Holds nm w N st (for_nodes 2 sp) m → signed_type R.function_type m ≡ refused (number e)) × Beyond 64 N w w' → Operates (λ _. R.plain_function) w w' N st (Step.Refused e)
 function_untyped e c = first_refused (λ _. R.plain_function) (signed_type R.function_type) (λ _ t. R.labels t >>= function_rest t) 2 e (omega arith) (λ s m. function_split m) c
 
-pub function_labelless : {w w₁ w₂ : List ℕ} {N : ℕ} {st u₁ : State} {ty : ℕ} → GivesType (signed_type R.function_type) 2 0 w w₁ N st ty u₁ → Ready w N st full_spare → ((nm : Names) (x : Node) → Lies (Named nm) x w₁ ty → ((sp : Spare) (m : Demangler) → Holds nm w₁ N u₁ sp m → R.labels x m ≡ refused 10) × Beyond 64 N w₁ w₂) → Operates (λ _. R.plain_function) w w₂ N st (Step.Refused Refusal.Stack)
+pub function_labelless : {r : Refusal} {w w₁ w₂ : List ℕ} {N : ℕ} {st u₁ : State} {ty : ℕ} → GivesType (signed_type R.function_type) 2 0 w w₁ N st ty u₁ → Ready w N st full_spare → ((nm : Names) (x : Node) → Lies (Named nm) x w₁ ty → ((sp : Spare) (m : Demangler) → Holds nm w₁ N u₁ sp m → R.labels x m ≡ refused (number r)) × Beyond 64 N w₁ w₂) → Operates (λ _. R.plain_function) w w₂ N st (Step.Refused r)
 function_labelless a q c = labelless a (omega arith) R.plain_function function_rest (λ m. function_split m) q c
 
 module _ {w w₁ w₂ : List ℕ} {N : ℕ} {st u₁ u₂ : State} {ty first last : ℕ} (a : GivesType (signed_type R.function_type) 2 0 w w₁ N st ty u₁) (c : (nm : Names) (x : Node) → Lies (Named nm) x w₁ ty → GivesLabels nm (R.labels x) w₁ w₂ N u₁ first last u₂) (q : Ready w N st full_spare) where
-  pub function_nameless : ((nm : Names) (sp : Spare) (m : Demangler) → Holds nm w₂ N u₂ sp m → R.pop_name m ≡ refused 10) → Operates (λ _. R.plain_function) w w₂ N st (Step.Refused Refusal.Stack)
-  unfolding number
+  pub function_nameless : {r : Refusal} → ((nm : Names) (sp : Spare) (m : Demangler) → Holds nm w₂ N u₂ sp m → R.pop_name m ≡ refused (number r)) → Operates (λ _. R.plain_function) w w₂ N st (Step.Refused r)
   function_nameless d =
       let k = labels_keep a (omega arith) c q in
       record {
@@ -312,8 +288,7 @@ module _ {w w₁ w₂ : List ℕ} {N : ℕ} {st u₁ u₂ : State} {ty first las
       }
 
   module _ {name : ℕ} {u₃ : State} (b : GivesName R.pop_name w₂ N u₂ name u₃) where
-    pub function_alone : {w₃ : List ℕ} → ((nm : Names) (sp : Spare) (m : Demangler) → Holds nm w₂ N u₃ sp m → R.context m ≡ refused 10) × Beyond 64 N w₂ w₃ → Operates (λ _. R.plain_function) w w₃ N st (Step.Refused Refusal.Stack)
-    unfolding number
+    pub function_alone : {r : Refusal} {w₃ : List ℕ} → ((nm : Names) (sp : Spare) (m : Demangler) → Holds nm w₂ N u₃ sp m → R.context m ≡ refused (number r)) × Beyond 64 N w₂ w₃ → Operates (λ _. R.plain_function) w w₃ N st (Step.Refused r)
     function_alone d =
         let k = labels_keep a (omega arith) c q in
         record {
@@ -361,3 +336,7 @@ module _ {w w₁ w₂ : List ℕ} {N : ℕ} {st u₁ u₂ : State} {ty first las
             past = λ i j. l.keeps.past i j ∙ (d.keeps.past i j ∙ (k.past i j ∙ a.keeps.past i j));
             long = l.keeps.long ∙ (d.keeps.long ∙ (k.long ∙ a.keeps.long));
           }
+
+-- ON `Trees`, after a type
+pub has_typed : {t t' : Trees} {f : Run Node} {own gain p : ℕ} → Stays t t' → GivesType f own gain t.ws.now t'.ws.now t.n t.state p t'.state → own ≤ 4 → Has t full_spare → Has t' after_type
+has_typed s g l q = rw s.ceiling (after_typed g l q)

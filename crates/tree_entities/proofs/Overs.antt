@@ -5,18 +5,15 @@ use mathlib.Core.List.{List, [], ◌∷◌}
 use Prim.Native.Nat.{ℕ, ◌+◌}
 use Prim.Native.String.{String}
 use native.Mathlib.Omega.{arith}
-use Rattle.definition.specs.Base.{bytes, refused, and_then}
+use Rattle.definition.specs.Base.{bytes, and_then}
 use Rattle.definition.specs.Kind as K
-use Rattle.definition.specs.Enums.{number}
 use Rattle.definition.specs.Node.{Node, Deinitializer, ValueWitness, kind, size, count, view}
 use Rattle.definition.specs.Machine.{restack, push}
-use Rattle.definition.specs.Perform.{Demangler, Run}
+use Rattle.definition.specs.Perform.{Run}
 use Rattle.tree_records.specs.Lies.{at, flag}
-use Rattle.tree_records.specs.Holds.{Fixed, Names, Named, Spare, Holds, Ready, for_record, for_push}
+use Rattle.tree_records.specs.Holds.{Fixed, Names, Named, Ready, for_record, for_push}
 use Rattle.tree_records.specs.declared.State.{State}
-use Rattle.definition.specs.declared.Refusal.TheVariants as Refusal
-use Rattle.tree_nodes.specs.declared.Step.TheVariants as Step
-use Rattle.machine.specs.Beyond.{Beyond}
+use Rattle.tree_nodes.specs.Results as Step
 use Rattle.tree_nodes.specs.Gives.{nothing_spare, full_spare, taken, Given, Gives, Under, Operates, Left}
 use Rattle.tree_nodes.proofs.Taking.{less_spare}
 use Rattle.tree_nodes.proofs.OneChilds.{given_size, given_room}
@@ -50,11 +47,6 @@ over {k} {a} {c} {f} {gain} {w} {w₁} {w₂} {N} {st} {u} {v} {p} o g l = recor
   past = λ i h. l.keeps.past i h ∙ g.keeps.past i h;
   long = l.keeps.long ∙ g.keeps.long;
 }
-
-pub over_refused : (f : Run Node) (c : (ℕ → String) → Node → Node) {w w' : List ℕ} {N : ℕ} {st : State} → ((nm : Names) (sp : Spare) (m : Demangler) → Holds nm w N st sp m → f m ≡ refused 10) × Beyond 64 N w w' →
-    Operates (one_over f c) w w' N st (Step.Refused Refusal.Stack)
-unfolding number
-over_refused f c h = record { runs = λ nm m i k. ap (λ y. and_then y (λ x. push (c nm.fixed x))) (h.0 nm full_spare m k); past = h.1.past; long = h.1.long }
 
 -- THE NODES
 pub deinitializer_node : (b : Bool) (a : ℕ) → a ≡ flag b → OneOver K.deinitializer a (λ _. Deinitializer b)

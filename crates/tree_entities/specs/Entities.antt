@@ -13,11 +13,8 @@ use Rattle.tree_records.specs.Holds.{Fixed, Names, Named, Spare, Holds, Keeps}
 use Rattle.tree_records.specs.declared.State.{State}
 use Rattle.machine.specs.Beyond.{Beyond}
 use Rattle.tree_nodes.specs.Gives.{Performed, most, spare, nothing_spare, for_nodes, Given}
-use Rattle.tree_entities.specs.declared.Signature.{Signature}
-use Rattle.tree_entities.specs.declared.Signature.TheVariants as Signature
-use Rattle.tree_entities.specs.declared.Signed.{Signed}
-use Rattle.tree_nodes.specs.declared.Built.{Built}
-use Rattle.tree_nodes.specs.declared.Built.TheVariants as Built
+use Rattle.std.specs.Prelude.{Option as Maybe, Some, None, Result, Ok, Err}
+use Rattle.definition.specs.declared.Refusal.{Refusal}
 
 -- the nodes of kind k over one tree, in field 4, with the number a in field 3; given the fixed
 -- names
@@ -32,12 +29,17 @@ abbrev pub one_over : Run Node → ((ℕ → String) → Node → Node) → Perf
 one_over f c fixed = f >>= λ x. push (c fixed x)
 
 -- SIGNATURES
+-- the place of a signature that was taken, if there was one, and the state after it
+pub record Signed : Type 0 where
+  pub signature : Maybe ℕ
+  pub next : State
+
 -- the places of a signature that may be missing, and of what it is
-abbrev pub Signs : (nm : Names) (w : List ℕ) (top : ℕ) → Signature → Option Node → Type 0
-Signs nm w top (Signature.At p) (some s) = (p < top) × Lies (Named nm) s w p
-Signs nm w top (Signature.At p) none = ⊥
-Signs nm w top Signature.Nothing (some s) = ⊥
-Signs nm w top Signature.Nothing none = Unit
+abbrev pub Signs : (nm : Names) (w : List ℕ) (top : ℕ) → Maybe ℕ → Option Node → Type 0
+Signs nm w top (Some p) (some s) = (p < top) × Lies (Named nm) s w p
+Signs nm w top (Some p) none = ⊥
+Signs nm w top None (some s) = ⊥
+Signs nm w top None none = Unit
 
 -- what a signature that was taken gives back: enough for the record over it and the type
 abbrev pub weight_of : Option Node → ℕ
@@ -70,9 +72,9 @@ pub record GivesType (f : Run Node) (own gain : ℕ) (w w' : List ℕ) (N : ℕ)
   pub keeps : Keeps w w' N st.top
   pub gives : (nm : Names) (sp : Spare) (m : Demangler) → Holds nm w N st (for_nodes own sp) m → Given f gain nm w' N p u sp m
 
-abbrev pub TakesType : Run Node → (own gain : ℕ) → (w w' : List ℕ) (N : ℕ) (st : State) → Built → Type 0
-TakesType f own gain w w' N st (Built.Place p u) = GivesType f own gain w w' N st p u
-TakesType f own gain w w' N st (Built.Refused r) = ((nm : Names) (sp : Spare) (m : Demangler) → Holds nm w N st (for_nodes own sp) m → f m ≡ refused (number r)) × Beyond 64 N w w'
+abbrev pub TakesType : Run Node → (own gain : ℕ) → (w w' : List ℕ) (N : ℕ) (st u : State) → Result ℕ Refusal → Type 0
+TakesType f own gain w w' N st u (Ok p) = GivesType f own gain w w' N st p u
+TakesType f own gain w w' N st u (Err r) = ((nm : Names) (sp : Spare) (m : Demangler) → Holds nm w N st (for_nodes own sp) m → f m ≡ refused (number r)) × Beyond 64 N w w'
 
 -- a type under a signature, if there is one
 pub record GivenUnder (nm : Names) (s : Option Node) (x : Node) (w : List ℕ) (N p : ℕ) (u : State) (sp : Spare) (m : Demangler) : Type 0 where
@@ -83,20 +85,20 @@ pub record GivenUnder (nm : Names) (s : Option Node) (x : Node) (w : List ℕ) (
   pub weighs : size tree ≤ weight_of s + size x + 1
   pub holds : Holds nm w N u (for_nodes (weight_of s) sp) machine
 
-pub record GivesUnder (w w' : List ℕ) (N : ℕ) (st : State) (signature : Signature) (ty p : ℕ) (u : State) : Type 0 where
+pub record GivesUnder (w w' : List ℕ) (N : ℕ) (st : State) (signature : Maybe ℕ) (ty p : ℕ) (u : State) : Type 0 where
   pub below : p < u.top
   pub deep : u.depth ≡ st.depth
   pub rising : st.top ≤ u.top
   pub keeps : Keeps w w' N st.top
   pub gives : (nm : Names) (s : Option Node) (x : Node) (sp : Spare) (m : Demangler) → Signs nm w st.top signature s → Lies (Named nm) x w ty → Holds nm w N st (signed s sp) m → GivenUnder nm s x w' N p u sp m
 
-abbrev pub TakesUnder : (w w' : List ℕ) (N : ℕ) (st : State) (signature : Signature) (ty : ℕ) → Built → Type 0
-TakesUnder w w' N st signature ty (Built.Place p u) = GivesUnder w w' N st signature ty p u
-TakesUnder w w' N st signature ty (Built.Refused r) = ((nm : Names) (s : Option Node) (x : Node) (sp : Spare) (m : Demangler) → Signs nm w st.top signature s → Holds nm w N st sp m → under_signature s x m ≡ refused (number r)) × Beyond 64 N w w'
+abbrev pub TakesUnder : (w w' : List ℕ) (N : ℕ) (st u : State) (signature : Maybe ℕ) (ty : ℕ) → Result ℕ Refusal → Type 0
+TakesUnder w w' N st u signature ty (Ok p) = GivesUnder w w' N st signature ty p u
+TakesUnder w w' N st u signature ty (Err r) = ((nm : Names) (s : Option Node) (x : Node) (sp : Spare) (m : Demangler) → Signs nm w st.top signature s → Holds nm w N st sp m → under_signature s x m ≡ refused (number r)) × Beyond 64 N w w'
 
 -- w holds some type at ty, some signature if there is one, and there is room for the record over
 -- them
-pub record Signing (w : List ℕ) (N : ℕ) (st : State) (signature : Signature) (ty : ℕ) : Type 0 where
+pub record Signing (w : List ℕ) (N : ℕ) (st : State) (signature : Maybe ℕ) (ty : ℕ) : Type 0 where
   pub names : Names
   pub machine : Demangler
   pub signed_by : Option Node

@@ -9,10 +9,9 @@ use Rattle.tree_records.specs.Lies.{at, Lies, LabelIs, LabelList}
 use Rattle.tree_records.specs.Holds.{Names, Named, Spare, Holds, Keeps}
 use Rattle.tree_records.specs.declared.State.{State}
 use Rattle.machine.specs.Beyond.{Beyond}
-use Rattle.tree_records.specs.declared.Popped.{Popped}
-use Rattle.tree_records.specs.declared.Popped.TheVariants as Popped
-use Rattle.tree_entities.specs.declared.labels.LabelsTaken.{LabelsTaken}
-use Rattle.tree_entities.specs.declared.labels.LabelsTaken.TheVariants as LabelsTaken
+use Rattle.std.specs.Prelude.{Result, Ok, Err}
+use Rattle.definition.specs.declared.Refusal.{Refusal}
+use Rattle.tree_entities.specs.declared.labels.Labelled.{Labelled}
 
 -- w holds some tree at place p, below top
 pub record Treed (w : List ℕ) (p top : ℕ) : Type 0 where
@@ -46,9 +45,9 @@ pub record GivesCell (w w' : List ℕ) (N : ℕ) (st : State) (next p : ℕ) (u 
   pub keeps : Keeps w w' N st.top
   pub gives : (nm : Names) (sp : Spare) (m : Demangler) → Holds nm w N st sp m → GivenCell nm w' N p next u sp m
 
-abbrev pub TakesCell : (w w' : List ℕ) (N : ℕ) (st : State) (next : ℕ) → Popped → Type 0
-TakesCell w w' N st next (Popped.Place p u) = GivesCell w w' N st next p u
-TakesCell w w' N st next Popped.Nothing = ((nm : Names) (sp : Spare) (m : Demangler) → Holds nm w N st sp m → one_label m ≡ refused 10) × Beyond 64 N w w'
+abbrev pub TakesCell : (w w' : List ℕ) (N : ℕ) (st u : State) (next : ℕ) → Result ℕ Refusal → Type 0
+TakesCell w w' N st u next (Ok p) = GivesCell w w' N st next p u
+TakesCell w w' N st u next (Err r) = ((nm : Names) (sp : Spare) (m : Demangler) → Holds nm w N st sp m → one_label m ≡ refused (number r)) × Beyond 64 N w w'
 
 -- the step f took labels; they are the labels of any later record that has the two numbers next to
 -- each other
@@ -65,6 +64,6 @@ pub record GivesLabels (nm : Names) (f : Run Labels) (w w' : List ℕ) (N : ℕ)
   pub keeps : Keeps w w' N st.top
   pub gives : (sp : Spare) (m : Demangler) → Holds nm w N st sp m → GivenLabels nm f w' N first number u sp m
 
-abbrev pub TakesLabels : Names → Run Labels → (w w' : List ℕ) (N : ℕ) (st : State) → LabelsTaken → Type 0
-TakesLabels nm f w w' N st (LabelsTaken.Labels first number u) = GivesLabels nm f w w' N st first number u
-TakesLabels nm f w w' N st LabelsTaken.Nothing = ((sp : Spare) (m : Demangler) → Holds nm w N st sp m → f m ≡ refused 10) × Beyond 64 N w w'
+abbrev pub TakesLabels : Names → Run Labels → (w w' : List ℕ) (N : ℕ) (st u : State) → Result Labelled Refusal → Type 0
+TakesLabels nm f w w' N st u (Ok l) = GivesLabels nm f w w' N st l.first l.number u
+TakesLabels nm f w w' N st u (Err r) = ((sp : Spare) (m : Demangler) → Holds nm w N st sp m → f m ≡ refused (number r)) × Beyond 64 N w w'

@@ -1,119 +1,110 @@
 // The labels of a function. Its type determines how many there are.
-ghost use Rattle.std.specs.Prelude.{◌≡◌, [], ◌∷◌, ◌+◌, ◌*◌, ◌≤◌, ◌<◌, length};
+ghost use Rattle.std.specs.Prelude.{◌≡◌, ◌+◌, ◌*◌, ◌≤◌, ◌<◌, length};
 ghost use Rattle.definition.specs.Node.{Node};
 ghost use Rattle.definition.specs.Perform as R;
 ghost use Rattle.tree_records.specs.Lies.{Lies};
-ghost use Rattle.tree_records.specs.Holds.{Ready, Inside, Names, Named, Grew};
+ghost use Rattle.tree_records.specs.Holds.{Names, Named};
+ghost use Rattle.tree_records.specs.Trees.{Stays, Has};
 ghost use Rattle.tree_nodes.specs.Gives.{nothing_spare};
 ghost use Rattle.tree_entities.specs.LabelsOf.{Treed, TakesCell, TakesLabels, some_labels};
 
-use tree_records::{Fields, Popped, State};
+use definition::Refusal;
+use machine::kinds::Kind;
+use tree_nodes::take::took;
+use tree_records::{Record, Trees};
 
-// The place of the first label's cell, and the number of labels plus 1; 0 and 0 if the function has
-// no labels of its own.
-#[derive(Clone, Copy)]
-pub enum LabelsTaken {
-    Labels(u32, u32, State),
-    Nothing,
+// The labels of a function, as its record has them: the cell of the first, and their number plus 1.
+// Both are 0 if the function has no labels of its own.
+#[derive(Clone, Copy, Debug, PartialEq, Eq)]
+pub struct Labelled {
+    pub first: u32,
+    pub number: u32,
 }
 
-// The number of parameters of the function type at place p; 0 for any other type.
-fn arity_of(ws: &[u32], p: usize) -> u32
-    requires { 8 * p + 8 ≤ length ws.now }
-    ensures { (nm : Names) (x : Node) → Lies (Named nm) x ws.now p → result ≡ R.arity_of x }
+// The number of parameters of the function type at a place; 0 for any other type.
+fn arity_of(trees: &Trees, place: usize) -> u32
+    requires { 8 * place + 8 ≤ length trees.now.ws.now }
+    ensures { (nm : Names) (x : Node) → Lies (Named nm) x trees.now.ws.now place → result ≡ R.arity_of x }
 {
-    if tree_records::field(ws, p, 0) == 10 {
-        return tree_records::field(ws, p, 2);
+    if trees.field(place, Record::KIND) == Kind::FunctionType as u32 {
+        return trees.field(place, Record::COUNT);
     }
     0
 }
 
-// The number of labels that the type at place ty requires, also if it is under a signature.
-fn arity(ws: &[u32], ty: usize) -> u32
-    requires ty_in_bounds { 8 * ty + 8 ≤ length ws.now }
-    requires treed { Treed ws.now ty (ty + 1) }
-    ensures { (nm : Names) (x : Node) → Lies (Named nm) x ws.now ty → result ≡ R.arity x }
+// The number of labels that the type at a place requires, also if it is under a signature.
+fn arity(trees: &Trees, ty: usize) -> u32
+    requires ty_in_bounds { 8 * ty + 8 ≤ length trees.now.ws.now }
+    requires treed { Treed trees.now.ws.now ty (ty + 1) }
+    ensures { (nm : Names) (x : Node) → Lies (Named nm) x trees.now.ws.now ty → result ≡ R.arity x }
 {
-    if tree_records::field(ws, ty, 0) == 11 {
-        return arity_of(ws, tree_records::wide(tree_records::field(ws, ty, 4)));
+    if trees.field(ty, Record::KIND) == Kind::GenericType as u32 {
+        return arity_of(trees, trees.child(ty, Record::B));
     }
-    arity_of(ws, ty)
-}
-
-// Makes the cell of one entry: its label, and the place of the cell after it.
-fn cell(ws: &mut [u32], n: usize, st: State, label: u32, next: u32) -> State
-    requires { Inside ws.old n st 2 0 0 }
-    ensures { Grew ws.old ws.new n st result (0 ∷ 0 ∷ 0 ∷ label ∷ 0 ∷ next ∷ 0 ∷ 0 ∷ []) }
-{
-    let rest = Fields {
-        a: label,
-        b: 0,
-        c: next,
-        d: 0,
-        e: 0,
-    };
-    tree_records::grow(ws, n, st, 0, 0, 0, rest)
+    arity_of(trees, ty)
 }
 
 // Takes one entry of the labels, and puts it in a cell before the cell `next`.
-fn label(ws: &mut [u32], n: usize, st: State, next: u32) -> Popped
-    requires { Ready ws.old n st nothing_spare }
-    ensures { TakesCell ws.old ws.new n st next result }
+fn label(trees: &mut Trees, next: u32) -> Result<usize, Refusal>
+    requires { Has trees.old nothing_spare }
+    ensures stays { Stays trees.old trees.new }
+    ensures takes { TakesCell trees.old.ws.now trees.new.ws.now trees.old.n trees.old.state trees.new.state next result }
 {
-    match tree_records::pop(ws, n, st) {
-        Popped::Place(p, u) => {
-            let top = u.top;
-            let kind = tree_records::field(ws, p, 0);
-            if kind == 0 {
-                let name = tree_records::field(ws, p, 3);
-                return Popped::Place(top, cell(ws, n, u, name, next));
-            }
-            if kind == 31 {
-                return Popped::Place(top, cell(ws, n, u, 4294967295, next));
-            }
-            Popped::Nothing
-        }
-        Popped::Nothing => Popped::Nothing,
+    let place = trees.pop()?;
+    let kind = trees.field(place, Record::KIND);
+    if kind == Kind::Identifier as u32 {
+        let name = trees.field(place, Record::A);
+        return Ok(trees.grow(Record {
+            a: name,
+            c: next,
+            ..Record::ZERO
+        }));
     }
+    if kind != Kind::FirstElementMarker as u32 {
+        return Err(Refusal::Stack);
+    }
+    Ok(trees.grow(Record {
+        a: Record::NO_LABEL,
+        c: next,
+        ..Record::ZERO
+    }))
 }
 
 // Takes `many` entries, and puts each in front.
-fn labels_from(ws: &mut [u32], n: usize, st: State, many: u32) -> LabelsTaken
-    requires { Ready ws.old n st nothing_spare }
-    ensures { (nm : Names) → TakesLabels nm (some_labels many) ws.old ws.new n st result }
+fn labels_from(trees: &mut Trees, many: u32) -> Result<Labelled, Refusal>
+    requires { Has trees.old nothing_spare }
+    ensures stays { Stays trees.old trees.new }
+    ensures takes { (nm : Names) → TakesLabels nm (some_labels many) trees.old.ws.now trees.new.ws.now trees.old.n trees.old.state trees.new.state result }
 {
-    let mut u = st;
-    let mut first: u32 = 0;
-    let mut left = many;
-    while 0 < left {
-        match label(ws, n, u, first) {
-            Popped::Place(p, v) => {
-                first = p as u32;
-                u = v;
-            }
-            Popped::Nothing => {
-                return LabelsTaken::Nothing;
-            }
-        }
-        left -= 1;
+    let mut first = 0;
+    for _i in 0..many {
+        first = label(trees, first)? as u32;
     }
-    LabelsTaken::Labels(first, many + 1, u)
+    Ok(Labelled {
+        first,
+        number: many + 1,
+    })
 }
 
-// Takes the labels of the function whose type is at place ty.
-pub fn labels(ws: &mut [u32], n: usize, st: State, ty: usize) -> LabelsTaken
-    requires ready { Ready ws.old n st nothing_spare }
-    requires treed { Treed ws.old ty st.top }
-    ensures { (nm : Names) (x : Node) → Lies (Named nm) x ws.old ty → TakesLabels nm (R.labels x) ws.old ws.new n st result }
+// Takes the labels of the function whose type is at a place.
+pub fn labels(trees: &mut Trees, ty: usize) -> Result<Labelled, Refusal>
+    requires ready { Has trees.old nothing_spare }
+    requires treed { Treed trees.old.ws.now ty trees.old.state.top }
+    ensures stays { Stays trees.old trees.new }
+    ensures takes { (nm : Names) (x : Node) → Lies (Named nm) x trees.old.ws.now ty → TakesLabels nm (R.labels x) trees.old.ws.now trees.new.ws.now trees.old.n trees.old.state trees.new.state result }
 {
-    let marked = tree_nodes::took(ws, n, st, 30);
-    let u = marked.next;
-    if marked.taken {
-        return LabelsTaken::Labels(0, 1, u);
+    if took(trees, Kind::EmptyList) {
+        return Ok(Labelled {
+            first: 0,
+            number: 1,
+        });
     }
-    let many = arity(ws, ty);
+    let many = arity(trees, ty);
     if many == 0 {
-        return LabelsTaken::Labels(0, 0, u);
+        return Ok(Labelled {
+            first: 0,
+            number: 0,
+        });
     }
-    labels_from(ws, n, u, many)
+    labels_from(trees, many)
 }

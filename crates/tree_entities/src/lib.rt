@@ -9,228 +9,166 @@ ghost use Rattle.definition.specs.Base.{bytes};
 ghost use Rattle.definition.specs.Kind as K;
 ghost use Rattle.definition.specs.Node.{Deinitializer, ValueWitness};
 ghost use Rattle.definition.specs.Perform as R;
-ghost use Rattle.tree_records.specs.Holds.{Ready};
-ghost use Rattle.tree_nodes.specs.Gives.{nothing_spare, full_spare, Operates};
+ghost use Rattle.tree_records.specs.Trees.{Stays, Reads, Has};
+ghost use Rattle.tree_nodes.specs.Gives.{nothing_spare, full_spare};
+ghost use Rattle.tree_nodes.specs.Trees.{Operates};
 ghost use Rattle.tree_parts.specs.Leaves.{letter};
 ghost use Rattle.tree_entities.specs.Entities.{one_over, GivesSigned, Signing, TakesUnder, TakesType, variable_type, signed_type};
 
-use crate::labels::{LabelsTaken, labels};
+use crate::labels::labels;
 use definition::{Accessor, Refusal};
-use machine::kinds::Want;
-use tree_nodes::{Built, NameTaken, Step, WrapSpent};
+use machine::kinds::{Kind, Want};
+use tree_nodes::build::function_type;
+use tree_nodes::leave::wrap;
+use tree_nodes::take::{context, pop_if, pop_name, took, try_pop};
+use tree_nodes::{fixed_number, flag};
 use tree_parts::entity::{leave_variable, push_entity, push_over};
-use tree_records::{Fields, Popped, State};
-
-// The place of a signature, if there is one.
-#[derive(Clone, Copy)]
-pub enum Signature {
-    At(usize),
-    Nothing,
-}
-
-// A signature that was on top, if there was one, and the state without it.
-#[derive(Clone, Copy)]
-pub struct Signed {
-    pub signature: Signature,
-    pub next: State,
-}
+use tree_records::{Record, Trees};
 
 // `fD`, `fd`: a deinitializer.
-pub fn deinitializer(ws: &mut [u32], n: usize, st: State, deallocating: bool) -> Step
-    requires { Ready ws.old n st full_spare }
-    ensures { Operates (one_over R.context (λ _. Deinitializer deallocating)) ws.old ws.new n st result }
+pub fn deinitializer(trees: &mut Trees, deallocating: bool) -> Result<(), Refusal>
+    requires { Has trees.old full_spare }
+    ensures stays { Stays trees.old trees.new }
+    ensures operates { Operates (one_over R.context (λ _. Deinitializer deallocating)) trees.old trees.new result }
 {
-    match tree_nodes::context(ws, n, st) {
-        Popped::Place(p, u) => Step::Done(push_over(
-            ws,
-            n,
-            u,
-            p,
-            23,
-            tree_nodes::flag(deallocating),
-        )),
-        Popped::Nothing => Step::Refused(Refusal::Stack),
-    }
+    let home = context(trees)?;
+    push_over(trees, Kind::Deinitializer, flag(deallocating), home);
+    Ok(())
 }
 
 // `w`: a value witness of the type on top. Its name is a fixed name.
-pub fn value_witness(ws: &mut [u32], n: usize, st: State, name: usize) -> Step
-    requires { Ready ws.old n st full_spare }
-    ensures { Operates (one_over (R.pop_if K.is_type) (λ fixed. ValueWitness (bytes (fixed name)))) ws.old ws.new n st result }
+pub fn value_witness(trees: &mut Trees, name: usize) -> Result<(), Refusal>
+    requires { Has trees.old full_spare }
+    ensures stays { Stays trees.old trees.new }
+    ensures operates { Operates (one_over (R.pop_if K.is_type) (λ fixed. ValueWitness (bytes (fixed name)))) trees.old trees.new result }
 {
-    match tree_nodes::pop_if(ws, n, st, Want::Type) {
-        Popped::Place(p, u) => Step::Done(push_over(
-            ws,
-            n,
-            u,
-            p,
-            29,
-            tree_nodes::fixed_number(name),
-        )),
-        Popped::Nothing => Step::Refused(Refusal::Stack),
-    }
+    let ty = pop_if(trees, Want::Type)?;
+    push_over(trees, Kind::ValueWitness, fixed_number(name), ty);
+    Ok(())
 }
 
 // SIGNATURES
 
 // Takes the signature on top, if there is one.
-fn try_signature(ws: &[u32], n: usize, st: State) -> Signed
-    requires { Ready ws.now n st nothing_spare }
-    ensures { GivesSigned ws.now n st result }
+fn try_signature(trees: &mut Trees) -> Option<usize>
+    requires { Has trees.old nothing_spare }
+    ensures reads { Reads trees.old trees.new }
+    ensures gives { GivesSigned trees.old.ws.now trees.old.n trees.old.state (record { signature = result; next = trees.new.state }) }
 {
-    match tree_nodes::pop_if(ws, n, st, Want::Kind(12)) {
-        Popped::Place(p, u) => Signed {
-            signature: Signature::At(p),
-            next: u,
-        },
-        Popped::Nothing => Signed {
-            signature: Signature::Nothing,
-            next: st,
-        },
-    }
+    try_pop(trees, Want::Kind(Kind::GenericSignature))
 }
 
-// Puts the type at place ty under a signature, if there is one, and counts one wrap.
+// Puts the type at a place under a signature, if there is one, and counts one wrap.
 pub fn under_signature(
-    ws: &mut [u32],
-    n: usize,
-    st: State,
-    signature: Signature,
+    trees: &mut Trees,
+    signature: Option<usize>,
     ty: usize,
-) -> Built
-    requires { Signing ws.old n st signature ty }
-    ensures { TakesUnder ws.old ws.new n st signature ty result }
+) -> Result<usize, Refusal>
+    requires { Signing trees.old.ws.now trees.old.n trees.old.state signature ty }
+    ensures stays { Stays trees.old trees.new }
+    ensures takes { TakesUnder trees.old.ws.now trees.new.ws.now trees.old.n trees.old.state trees.new.state signature ty result }
 {
     match signature {
-        Signature::At(p) => match tree_nodes::wrap(st) {
-            WrapSpent::Next(u) => {
-                let size = tree_records::field(ws, p, 1) + tree_records::field(ws, ty, 1);
-                let top = u.top;
-                let rest = Fields {
-                    a: p as u32,
-                    b: ty as u32,
-                    c: 0,
-                    d: 0,
-                    e: 0,
-                };
-                Built::Place(top, tree_records::grow(ws, n, u, 11, size + 1, 0, rest))
-            }
-            WrapSpent::Refused => Built::Refused(Refusal::Nesting),
-        },
-        Signature::Nothing => Built::Place(ty, st),
+        None => Ok(ty),
+        Some(place) => {
+            wrap(trees)?;
+            let size = trees.field(place, Record::SIZE) + trees.field(ty, Record::SIZE) + 1;
+            Ok(trees.grow(Record {
+                kind: Kind::GenericType,
+                size,
+                a: place as u32,
+                b: ty as u32,
+                ..Record::ZERO
+            }))
+        }
     }
 }
 
 // Builds the type of a variable, under the signature below it.
-fn variable_type(ws: &mut [u32], n: usize, st: State) -> Built
-    requires { Ready ws.old n st full_spare }
-    ensures { TakesType variable_type 1 3 ws.old ws.new n st result }
+fn variable_type(trees: &mut Trees) -> Result<usize, Refusal>
+    requires { Has trees.old full_spare }
+    ensures stays { Stays trees.old trees.new }
+    ensures takes { TakesType variable_type 1 3 trees.old.ws.now trees.new.ws.now trees.old.n trees.old.state trees.new.state result }
 {
-    match tree_nodes::pop_if(ws, n, st, Want::Type) {
-        Popped::Place(t, u) => {
-            let s = try_signature(ws, n, u);
-            let signature = s.signature;
-            under_signature(ws, n, s.next, signature, t)
-        }
-        Popped::Nothing => Built::Refused(Refusal::Stack),
-    }
+    let ty = pop_if(trees, Want::Type)?;
+    let signature = try_signature(trees);
+    under_signature(trees, signature, ty)
 }
 
 // Builds the type of an initializer, under the signature above it.
-fn initializer_type(ws: &mut [u32], n: usize, st: State) -> Built
-    requires { Ready ws.old n st full_spare }
-    ensures { TakesType (signed_type (R.pop_if K.is_type)) 1 3 ws.old ws.new n st result }
+fn initializer_type(trees: &mut Trees) -> Result<usize, Refusal>
+    requires { Has trees.old full_spare }
+    ensures stays { Stays trees.old trees.new }
+    ensures takes { TakesType (signed_type (R.pop_if K.is_type)) 1 3 trees.old.ws.now trees.new.ws.now trees.old.n trees.old.state trees.new.state result }
 {
-    let s = try_signature(ws, n, st);
-    let signature = s.signature;
-    match tree_nodes::pop_if(ws, n, s.next, Want::Type) {
-        Popped::Place(t, u) => under_signature(ws, n, u, signature, t),
-        Popped::Nothing => Built::Refused(Refusal::Stack),
-    }
+    let signature = try_signature(trees);
+    let ty = pop_if(trees, Want::Type)?;
+    under_signature(trees, signature, ty)
+}
+
+// Builds the type of a function, under the signature above it.
+fn plain_type(trees: &mut Trees) -> Result<usize, Refusal>
+    requires { Has trees.old full_spare }
+    ensures stays { Stays trees.old trees.new }
+    ensures takes { TakesType (signed_type R.function_type) 2 0 trees.old.ws.now trees.new.ws.now trees.old.n trees.old.state trees.new.state result }
+{
+    let signature = try_signature(trees);
+    let ty = function_type(trees)?;
+    under_signature(trees, signature, ty)
 }
 
 // ENTITIES
 
 // `v`: a variable, or its accessor.
-pub fn variable(ws: &mut [u32], n: usize, st: State, accessor: Accessor) -> Step
-    requires { Ready ws.old n st full_spare }
-    ensures { Operates (λ fixed. R.variable (letter fixed accessor)) ws.old ws.new n st result }
+pub fn variable(trees: &mut Trees, accessor: Accessor) -> Result<(), Refusal>
+    requires { Has trees.old full_spare }
+    ensures stays { Stays trees.old trees.new }
+    ensures operates { Operates (λ fixed. R.variable (letter fixed accessor)) trees.old trees.new result }
 {
-    match variable_type(ws, n, st) {
-        Built::Place(ty, u) => {
-            let marked = tree_nodes::took(ws, n, u, 30);
-            match tree_nodes::pop_name(ws, n, marked.next) {
-                NameTaken::Name(name, v) => match tree_nodes::context(ws, n, v) {
-                    Popped::Place(c, x) => leave_variable(ws, n, x, name, c, ty, accessor),
-                    Popped::Nothing => Step::Refused(Refusal::Stack),
-                },
-                NameTaken::Nothing => Step::Refused(Refusal::Stack),
-            }
-        }
-        Built::Refused(r) => Step::Refused(r),
-    }
+    let ty = variable_type(trees)?;
+    let _marked = took(trees, Kind::EmptyList);
+    let name = pop_name(trees)?;
+    let home = context(trees)?;
+    leave_variable(trees, name, home, ty, accessor)
 }
 
 // `fC`, `fc`: an initializer.
-pub fn initializer(ws: &mut [u32], n: usize, st: State, allocating: bool) -> Step
-    requires { Ready ws.old n st full_spare }
-    ensures { Operates (λ _. R.initializer allocating) ws.old ws.new n st result }
+pub fn initializer(trees: &mut Trees, allocating: bool) -> Result<(), Refusal>
+    requires { Has trees.old full_spare }
+    ensures stays { Stays trees.old trees.new }
+    ensures operates { Operates (λ _. R.initializer allocating) trees.old trees.new result }
 {
-    match initializer_type(ws, n, st) {
-        Built::Place(ty, u) => match labels(ws, n, u, ty) {
-            LabelsTaken::Labels(first, number, v) => match tree_nodes::context(ws, n, v) {
-                Popped::Place(c, x) => {
-                    Step::Done(push_entity(
-                        ws,
-                        n,
-                        x,
-                        22,
-                        c,
-                        ty,
-                        tree_nodes::flag(allocating),
-                        first,
-                        number,
-                    ))
-                }
-                Popped::Nothing => Step::Refused(Refusal::Stack),
-            },
-            LabelsTaken::Nothing => Step::Refused(Refusal::Stack),
-        },
-        Built::Refused(r) => Step::Refused(r),
-    }
-}
-
-// Builds the type of a function, under the signature above it.
-fn plain_type(ws: &mut [u32], n: usize, st: State) -> Built
-    requires { Ready ws.old n st full_spare }
-    ensures { TakesType (signed_type R.function_type) 2 0 ws.old ws.new n st result }
-{
-    let s = try_signature(ws, n, st);
-    let signature = s.signature;
-    match tree_nodes::function_type(ws, n, s.next) {
-        Built::Place(t, u) => under_signature(ws, n, u, signature, t),
-        Built::Refused(r) => Built::Refused(r),
-    }
+    let ty = initializer_type(trees)?;
+    let labelled = labels(trees, ty)?;
+    let home = context(trees)?;
+    let made = Record {
+        kind: Kind::Initializer,
+        a: flag(allocating),
+        d: labelled.first,
+        e: labelled.number,
+        ..Record::ZERO
+    };
+    push_entity(trees, made, home, ty);
+    Ok(())
 }
 
 // `F`: a function.
-pub fn plain_function(ws: &mut [u32], n: usize, st: State) -> Step
-    requires { Ready ws.old n st full_spare }
-    ensures { Operates (λ _. R.plain_function) ws.old ws.new n st result }
+pub fn plain_function(trees: &mut Trees) -> Result<(), Refusal>
+    requires { Has trees.old full_spare }
+    ensures stays { Stays trees.old trees.new }
+    ensures operates { Operates (λ _. R.plain_function) trees.old trees.new result }
 {
-    match plain_type(ws, n, st) {
-        Built::Place(ty, u) => match labels(ws, n, u, ty) {
-            LabelsTaken::Labels(first, number, v) => match tree_nodes::pop_name(ws, n, v) {
-                NameTaken::Name(name, x) => match tree_nodes::context(ws, n, x) {
-                    Popped::Place(c, y) => {
-                        Step::Done(push_entity(ws, n, y, 19, c, ty, name, first, number))
-                    }
-                    Popped::Nothing => Step::Refused(Refusal::Stack),
-                },
-                NameTaken::Nothing => Step::Refused(Refusal::Stack),
-            },
-            LabelsTaken::Nothing => Step::Refused(Refusal::Stack),
-        },
-        Built::Refused(r) => Step::Refused(r),
-    }
+    let ty = plain_type(trees)?;
+    let labelled = labels(trees, ty)?;
+    let name = pop_name(trees)?;
+    let home = context(trees)?;
+    let made = Record {
+        kind: Kind::Function,
+        a: name,
+        d: labelled.first,
+        e: labelled.number,
+        ..Record::ZERO
+    };
+    push_entity(trees, made, home, ty);
+    Ok(())
 }

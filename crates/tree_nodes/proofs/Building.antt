@@ -6,27 +6,18 @@ use mathlib.Core.List.{List, [], ◌∷◌}
 use Prim.Native.Nat.{ℕ, ◌+◌, ◌≤◌}
 use native.Mathlib.Omega.{arith}
 use lib.Dec.{eqb}
-use Rattle.definition.specs.Base.{refused}
 use Rattle.definition.specs.Kind as K
 use Rattle.definition.specs.Node.{Node, FunctionType, Conformance, kind, size, count, view, param_count}
-use Rattle.definition.specs.Machine as M
 use Rattle.definition.specs.Perform as R
 use Rattle.definition.specs.Perform.{Demangler, Run}
 use Rattle.tree_records.specs.Lies.{at, flag, Lies}
 use Rattle.tree_records.specs.Holds.{Names, Named, Spare, Holds, Ready, Keeps, Grew, for_record}
 use Rattle.tree_records.specs.declared.State.{State}
-use Rattle.tree_nodes.specs.declared.Built.{Built}
-use Rattle.tree_nodes.specs.declared.Built.TheVariants as Built
-use Rattle.tree_nodes.specs.declared.Marked.{Marked}
-use Rattle.machine.specs.Beyond.{Beyond, beyond_itself}
-use Rattle.tree_nodes.specs.Gives.{spare, taken, for_nodes, Given, Gives, Building, Builds, Marks, WrapsTo, between}
+use Rattle.tree_nodes.specs.Results.{Marked}
+use Rattle.tree_nodes.specs.Gives.{spare, taken, for_nodes, Given, Gives, Building, Marks, WrapsTo, between}
 use Rattle.tree_nodes.proofs.ByKind.{params_of}
 use Rattle.tree_nodes.proofs.Taking.{less_spare}
-use Rattle.tree_nodes.proofs.Leaving.{keeps_then, beyond_then}
-
--- f is refused because a node is missing, and nothing past 64 × N changes
-abbrev pub Not : Run Node → (w w₁ : List ℕ) (N : ℕ) (st : State) → Type 0
-Not f w w₁ N st = ((nm : Names) (sp : Spare) (m : Demangler) → Holds nm w N st sp m → f m ≡ refused 10) × Beyond 64 N w w₁
+use Rattle.tree_nodes.proofs.Leaving.{keeps_then}
 
 -- the size of a new record, if some machine has a node to spare for it
 new_size : {f : Run Node} {gain : ℕ} {nm : Names} {w : List ℕ} {N p : ℕ} {u : State} {sp : Spare} {m : Demangler} → Given f gain nm w N p u sp m → at w p 1 ≤ 262144
@@ -67,18 +58,11 @@ module _ {w w₁ w₂ w₃ : List ℕ} {N : ℕ} {st u v x : State} {p q : ℕ} 
             holds = g.holds nm (taken 0 (size n) sp) d.machine (less_spare (taken 1 (size d.tree) sp₁) (for_record (taken 0 (size n) sp)) (omega arith) (omega arith) (omega arith) (omega arith) d.holds);
           }
 
--- one of the two was missing
-pub between_first : {w w₁ : List ℕ} {N : ℕ} {st : State} (t y : Bool) → Not R.function_params w w₁ N st → Not (between t y) w w₁ N st
-between_first t y a = (λ nm sp m h. rw (a.0 nm sp m h) refl, a.1)
-
-pub between_second : {w w₁ w₂ : List ℕ} {N : ℕ} {st u : State} {p : ℕ} (t y : Bool) → Gives R.function_params 1 w w₁ N st p u → Not R.function_params w₁ w₂ N u → Not (between t y) w w₂ N st
-between_second t y a b = (λ nm sp m h. let c = a.gives nm sp m h in rw (c.is, b.0 nm (taken 1 (size c.tree) sp) c.machine c.holds) refl, beyond_then a.keeps b.1)
-
 -- after a wrap and the effects
-module _ {w : List ℕ} (w₁ : List ℕ) {N : ℕ} {st u : State} {t y : Marked} where
-  pub function_built : (r : Built) → WrapsTo w N st u → Marks (R.took 33) w N u t → Marks (R.took 34) w N t.next y → Builds (between t.taken y.taken) 1 0 w w₁ N y.next r → Builds R.function_type 1 0 w w₁ N st r
+module _ {w : List ℕ} (w₁ : List ℕ) {N : ℕ} {st u v : State} {t y : Marked} {p : ℕ} where
+  pub function_built : WrapsTo w N st u → Marks (R.took 33) w N u t → Marks (R.took 34) w N t.next y → Building (between t.taken y.taken) 1 0 w w₁ N y.next p v → Building R.function_type 1 0 w w₁ N st p v
   unfolding R.function_type
-  function_built (Built.Place p v) a b c d = record {
+  function_built a b c d = record {
     below = d.below;
     deep = omega (arith, a.depth, b.deep, c.deep, d.deep);
     rising = omega (arith, a.top, b.top, c.top, d.rising);
@@ -91,18 +75,6 @@ module _ {w : List ℕ} (w₁ : List ℕ) {N : ℕ} {st u : State} {t y : Marked
         let o : Given (between t.taken y.taken) 0 nm w₁ N p v sp k.0 = d.gives nm sp k.0 k.2 in
         record { tree = o.tree; machine = o.machine; is = rw (i.1, j.1, k.1) o.is; lies = o.lies; holds = o.holds };
   }
-  function_built (Built.Refused e) a b c d = (
-    λ nm sp m h.
-        let i = a.gives nm sp m h in
-        let j = b.gives nm sp i.0 i.2 in
-        let k = c.gives nm sp j.0 j.2 in
-        rw (i.1, j.1, k.1) (d.0 nm sp k.0 k.2),
-    d.1,
-  )
-
-pub function_unwrapped : {w : List ℕ} {N : ℕ} {st : State} → ((nm : Names) (sp : Spare) (m : Demangler) → Holds nm w N st sp m → M.wrap m ≡ refused 8) → ((nm : Names) (sp : Spare) (m : Demangler) → Holds nm w N st sp m → R.function_type m ≡ refused 8) × Beyond 64 N w w
-unfolding R.function_type
-function_unwrapped a = (λ nm sp m h. rw (a nm sp m h) refl, beyond_itself _ _)
 
 -- CONFORMANCES
 module _ {w w₁ w₂ w₃ : List ℕ} {N : ℕ} {st u v x y : State} {home p ty : ℕ} where
@@ -140,21 +112,3 @@ module _ {w w₁ w₂ w₃ : List ℕ} {N : ℕ} {st u v x y : State} {home p ty
             });
             holds = g.holds nm (taken 4 (size n) sp) f.machine (less_spare (taken 3 (size f.tree) sp₂) (for_record (taken 4 (size n) sp)) (omega arith) (omega arith) (omega arith) (omega arith) f.holds);
           }
-
-pub conformance_first : {w w₁ : List ℕ} {N : ℕ} {st : State} → Not R.context w w₁ N st → Not R.conformance w w₁ N st
-unfolding R.conformance
-conformance_first a = (λ nm sp m h. rw (a.0 nm sp m h) refl, a.1)
-
-pub conformance_second : {w w₁ w₂ : List ℕ} {N : ℕ} {st u : State} {home : ℕ} → Gives R.context 1 w w₁ N st home u → Not R.protocol w₁ w₂ N u → Not R.conformance w w₂ N st
-unfolding R.conformance
-conformance_second a b = (λ nm sp m h. let c = a.gives nm sp m h in rw (c.is, b.0 nm (taken 1 (size c.tree) sp) c.machine c.holds) refl, beyond_then a.keeps b.1)
-
-pub conformance_third : {w w₁ w₂ w₃ : List ℕ} {N : ℕ} {st u v : State} {home p : ℕ} → Gives R.context 1 w w₁ N st home u → Gives R.protocol 2 w₁ w₂ N u p v → Not (R.pop_if K.is_type) w₂ w₃ N v → Not R.conformance w w₃ N st
-unfolding R.conformance
-conformance_third a b e = (
-  λ nm sp m h.
-      let c = a.gives nm sp m h in
-      let d = b.gives nm (taken 1 (size c.tree) sp) c.machine c.holds in
-      rw (c.is, d.is, e.0 nm (taken 2 (size d.tree) (taken 1 (size c.tree) sp)) d.machine d.holds) refl,
-  beyond_then a.keeps (beyond_then b.keeps e.1),
-)

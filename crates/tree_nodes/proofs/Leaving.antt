@@ -12,14 +12,13 @@ use Rattle.definition.specs.Node.{size}
 use Rattle.definition.specs.Budget as B
 use Rattle.definition.specs.Machine as M
 use Rattle.definition.specs.Machine.{machine}
-use Rattle.definition.specs.Perform.{Demangler}
 use Rattle.machine.specs.Spent.{budget_of, Spending}
 use Rattle.machine.specs.declared.budget.Budget.{Budget}
-use Rattle.machine.specs.declared.budget.Spent.{Spent}
-use Rattle.machine.specs.declared.budget.Spent.TheVariants as Spent
+use Rattle.std.specs.Prelude.{Result, Ok, Err}
+use Rattle.machine.specs.declared.budget.Budget.{Budget}
 use Rattle.definition.specs.declared.Refusal.{Refusal}
 use Rattle.tree_records.specs.Lies.{Lies}
-use Rattle.tree_records.specs.Holds.{Names, Named, Spare, Inside, Holds, Grew, Pushed, Remembered, Keeps, for_push, for_keeping}
+use Rattle.tree_records.specs.Holds.{Named, Inside, Grew, Pushed, Remembered, Keeps, for_push, for_keeping}
 use Rattle.tree_records.specs.declared.State.{State}
 use Rattle.machine.specs.Beyond.{Beyond}
 use Rattle.tree_nodes.specs.Gives.{Left, Kept, WrapsTo}
@@ -84,14 +83,6 @@ wrap_total b c = go (ltb b.wraps 256)
     go true e = let q : B.budget b.steps b.total (suc b.wraps) ≡ c = cc in sym (ap (λ (x : B.Budget). x.total) q)
     go false e = let z : ◌≡◌ {A = ℕ} 0 1 = cc in absurd (omega arith)
 
-wrap_refusal : (b : B.Budget) (n : ℕ) → B.wrap b ≡ refused n → B.wrap b ≡ refused 8
-unfolding B.wrap
-wrap_refusal b n = go (ltb b.wraps 256)
-  where
-    go : (t : Bool) → ◌≡◌ {A = Out B.Budget Done} (if t then ok tt (B.budget b.steps b.total (suc b.wraps)) else refused 8) (refused n) → ◌≡◌ {A = Out B.Budget Done} (if t then ok tt (B.budget b.steps b.total (suc b.wraps)) else refused 8) (refused 8)
-    go true e = let z : ◌≡◌ {A = ℕ} 0 1 = cc in absurd (omega arith)
-    go false e = refl
-
 pub wraps_to : (st : State) (b : Budget) → B.wrap (budget_of st.budget) ≡ ok tt (budget_of b) → (w : List ℕ) (N : ℕ) → WrapsTo w N st (record { budget = b; top = st.top; depth = st.depth; seen = st.seen })
 unfolding M.wrap M.spend
 wraps_to st b e w N =
@@ -120,13 +111,9 @@ wraps_to st b e w N =
       );
     }
 
-pub wraps_refused : (st : State) (n : ℕ) → B.wrap (budget_of st.budget) ≡ refused n → (nm : Names) (w : List ℕ) (N : ℕ) (sp : Spare) (m : Demangler) → Holds nm w N st sp m → M.wrap m ≡ refused 8
-unfolding M.wrap M.spend
-wraps_refused st n e nm w N sp m h = let r : B.wrap (budget_of st.budget) ≡ refused 8 = wrap_refusal (budget_of st.budget) n e in rw (← h.budget, r) refl
-
 -- the result of an arm about a budget
-pub spent_left : {out : Out B.Budget Done} {r : Spent} (b : Budget) → r ≡ Spent.Left b → Spending out r → out ≡ ok tt (budget_of b)
-spent_left {out} b e h = subst (λ (x : Spent). Spending out x) e h
+pub spent_left : {out : Out B.Budget Done} {r : Result Budget Refusal} (b : Budget) → r ≡ Ok b → Spending out r → out ≡ ok tt (budget_of b)
+spent_left {out} b e h = subst (λ (x : Result Budget Refusal). Spending out x) e h
 
-pub spent_refused : {out : Out B.Budget Done} {r : Spent} (f : Refusal) → r ≡ Spent.Refused f → Spending out r → out ≡ refused (number f)
-spent_refused {out} f e h = subst (λ (x : Spent). Spending out x) e h
+pub spent_refused : {out : Out B.Budget Done} {r : Result Budget Refusal} (f : Refusal) → r ≡ Err f → Spending out r → out ≡ refused (number f)
+spent_refused {out} f e h = subst (λ (x : Result Budget Refusal). Spending out x) e h

@@ -4,6 +4,9 @@ pub mod Contexts
 pub mod Leaving
 pub mod OneChilds
 pub mod Ready
+pub mod Trees
+pub mod Steps
+pub mod Cases
 pub mod Protocols
 pub mod Params
 pub mod Building

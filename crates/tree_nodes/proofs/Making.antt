@@ -1,7 +1,7 @@
 -- Nodes that are made of nothing: generic parameters and the types of the module Swift.
-use mathlib.Core.Path.{◌≡◌, refl, sym, ap, ◌∙◌}
+use mathlib.Core.Path.{◌≡◌, refl, ap, ◌∙◌}
 use mathlib.Core.List.{List, [], ◌∷◌}
-use Prim.Native.Nat.{ℕ, ◌+◌, ◌-◌, ◌*◌, ◌^◌, ◌≤◌, ◌<◌}
+use Prim.Native.Nat.{ℕ, ◌+◌, ◌*◌, ◌^◌, ◌<◌}
 use native.Mathlib.Omega.{arith}
 use Rattle.definition.specs.Base.{bytes}
 use Rattle.definition.specs.Enums as Enums
@@ -22,9 +22,6 @@ halves x = omega arith
 -- a fixed name by its number
 pub fixed_name : (nm : Names) (n r : ℕ) → n < 134 → r ≡ 65536 + n → Named nm r (bytes (nm.fixed n))
 fixed_name nm n r l e = fixed (omega arith) (omega arith) (ap (λ (i : ℕ). bytes (nm.fixed i)) (omega arith))
-
-pub fixed_past : (nm : Names) (n : ℕ) → 134 ≤ n → Fixed nm.fixed → Named nm 65670 (bytes (nm.fixed n))
-fixed_past nm n h f = fixed (omega arith) (omega arith) (ap bytes (f.past 134 (omega arith) ∙ sym (f.past n h)))
 
 pub generic_made : {w w₁ : List ℕ} {N : ℕ} {st u : State} (p : Param) (a b c d : ℕ) → a ≡ low_half p.depth → b ≡ high_half p.depth → c ≡ low_half p.index → d ≡ high_half p.index →
     Grew w w₁ N st u (7 ∷ 1 ∷ 0 ∷ a ∷ b ∷ c ∷ d ∷ 0 ∷ []) → Makes (λ _. R.generic_param (Enums.param p)) 2 w w₁ N st (record { place = st.top; next = u })

@@ -2,10 +2,10 @@
 use mathlib.Core.Path.{◌≡◌, refl, ap, ◌∙◌, subst}
 use mathlib.Core.List.{List, [], ◌∷◌}
 use mathlib.Core.Option.{none}
-use Prim.Native.Nat.{ℕ, ◌-◌}
+use Prim.Native.Nat.{ℕ}
 use native.Mathlib.Omega.{arith}
 use lib.Dec.{eqb}
-use Rattle.definition.specs.Base.{Name, ok, is_some}
+use Rattle.definition.specs.Base.{ok, is_some}
 use Rattle.definition.specs.Kind as K
 use Rattle.definition.specs.Node.{nil, Tuple, kind, size, sizes, many, count, view}
 use Rattle.definition.specs.Machine as M
@@ -13,20 +13,16 @@ use Rattle.definition.specs.Perform as R
 use Rattle.definition.specs.Perform.{Demangler}
 use Rattle.tree_records.specs.Holds.{Names, Spare, Holds, Keeps, Grew, for_record}
 use Rattle.tree_records.specs.declared.State.{State}
-use Rattle.tree_records.specs.declared.Popped.{Popped}
-use Rattle.tree_records.specs.declared.Popped.TheVariants as Popped
-use Rattle.tree_nodes.specs.declared.NameTaken.{NameTaken}
-use Rattle.tree_nodes.specs.declared.NameTaken.TheVariants as NameTaken
-use Rattle.tree_nodes.specs.Gives.{taken, Given, Gives, Takes, GivenIf, GivesIf, GivenName, TakesName}
+use Rattle.tree_nodes.specs.Gives.{taken, Given, Gives, GivenIf, GivesIf, GivenName, GivesName}
 use Rattle.tree_nodes.proofs.ByKind.{positive}
 use Rattle.tree_nodes.proofs.Taking.{less_spare}
 
 -- NAMES OF MEMBER TYPES
 module _ {w : List ℕ} {N : ℕ} {st : State} where
   -- the protocol was there
-  pub assoc_behind : {p : ℕ} {u : State} (r : NameTaken) → GivesIf (R.try K.is_protocol) w N st p u → TakesName R.pop_name w N u r → TakesName R.assoc_type_name w N st r
+  pub assoc_behind : {p k : ℕ} {u v : State} → GivesIf (R.try K.is_protocol) w N st p u → GivesName R.pop_name w N u k v → GivesName R.assoc_type_name w N st k v
   unfolding R.assoc_type_name
-  assoc_behind (NameTaken.Name k v) g t = record {
+  assoc_behind {p} {k} {u} {v} g t = record {
     deep = omega (arith, g.deep, t.deep);
     top = t.top ∙ g.top;
     gives = λ nm sp m h.
@@ -40,21 +36,17 @@ module _ {w : List ℕ} {N : ℕ} {st : State} where
           holds = less_spare (taken 3 1 (taken 3 (size a.tree) sp)) (taken 3 1 sp) (omega arith) (omega arith) (omega arith) (omega arith) b.holds;
         };
   }
-  assoc_behind NameTaken.Nothing g t = λ nm sp m h.
-      let a : GivenIf (R.try K.is_protocol) nm w N _ _ sp m = g.gives nm sp m h in
-      rw (a.is, t nm (taken 3 (size a.tree) sp) a.machine a.holds) refl
 
   -- it was not
-  pub assoc_alone : (r : NameTaken) → ((nm : Names) (sp : Spare) (m : Demangler) → Holds nm w N st sp m → R.try K.is_protocol m ≡ ok none m) → TakesName R.pop_name w N st r → TakesName R.assoc_type_name w N st r
+  pub assoc_alone : {k : ℕ} {v : State} → ((nm : Names) (sp : Spare) (m : Demangler) → Holds nm w N st sp m → R.try K.is_protocol m ≡ ok none m) → GivesName R.pop_name w N st k v → GivesName R.assoc_type_name w N st k v
   unfolding R.assoc_type_name
-  assoc_alone (NameTaken.Name k v) g t = record {
+  assoc_alone {k} {v} g t = record {
     deep = t.deep;
     top = t.top;
     gives = λ nm sp m h.
         let b : GivenName R.pop_name nm w N k v sp m = t.gives nm sp m h in
         record { name = b.name; machine = b.machine; is = rw (g nm sp m h, b.is) refl; named = b.named; holds = b.holds };
   }
-  assoc_alone NameTaken.Nothing g t = λ nm sp m h. rw (g nm sp m h, t nm sp m h) refl
 
 -- THE PARAMETERS OF A FUNCTION TYPE
 module _ {w : List ℕ} {N : ℕ} {st : State} where
@@ -79,9 +71,9 @@ module _ {w : List ℕ} {N : ℕ} {st : State} where
   }
 
   -- a type
-  pub params_type : (r : Popped) → ((nm : Names) (sp : Spare) (m : Demangler) → Holds nm w N st sp m → R.try (eqb 30) m ≡ ok none m) → Takes (R.pop_if K.is_type) 3 w w N st r → Takes R.function_params 1 w w N st r
+  pub params_type : {p : ℕ} {u : State} → ((nm : Names) (sp : Spare) (m : Demangler) → Holds nm w N st sp m → R.try (eqb 30) m ≡ ok none m) → Gives (R.pop_if K.is_type) 3 w w N st p u → Gives R.function_params 1 w w N st p u
   unfolding R.function_params M.took is_some
-  params_type (Popped.Place p u) a g = record {
+  params_type {p} {u} a g = record {
     below = g.below;
     deep = g.deep;
     rising = g.rising;
@@ -97,4 +89,3 @@ module _ {w : List ℕ} {N : ℕ} {st : State} where
           holds = less_spare (taken 3 (size o.tree) sp) (taken 1 (size o.tree) sp) (omega arith) (omega arith) (omega arith) (omega arith) o.holds;
         };
   }
-  params_type Popped.Nothing a g = (λ nm sp m h. rw (a nm sp m h) (g.0 nm sp m h), g.1)

@@ -2,7 +2,7 @@
 use mathlib.Core.Path.{◌≡◌, refl, sym, ap, ◌∙◌, subst}
 use mathlib.Core.Bool.{false}
 use mathlib.Core.List.{List, [], ◌∷◌}
-use Prim.Native.Nat.{ℕ, ◌+◌, ◌-◌, ◌≤◌, ◌<◌}
+use Prim.Native.Nat.{ℕ, ◌+◌, ◌≤◌, ◌<◌}
 use native.Mathlib.Omega.{arith}
 use lib.Dec.{T, eqb}
 use Rattle.definition.specs.Base.{ok, refused, and_then, ret}
@@ -183,7 +183,7 @@ module _ {w : List ℕ} {N : ℕ} {st u : State} {p : ℕ} (t : Took w N st p u)
           let h = o.holds in
           omega (arith, h.small, h.charged, h.light, o.lies.size_is, g.fields 1 (omega arith), ez)
 
-  pub protocol_not_named : at w p 0 ≡ 0 → ((nm : Names) (sp : Spare) (m : Demangler) → Holds nm w N u sp m → R.context m ≡ refused 10) → (nm : Names) (sp : Spare) (m : Demangler) → Holds nm w N st sp m → R.protocol m ≡ refused 10
-  protocol_not_named a b nm sp m h =
+  pub protocol_not_named : {k : ℕ} → at w p 0 ≡ 0 → ((nm : Names) (sp : Spare) (m : Demangler) → Holds nm w N u sp m → R.context m ≡ refused k) → (nm : Names) (sp : Spare) (m : Demangler) → Holds nm w N st sp m → R.protocol m ≡ refused k
+  protocol_not_named {k} a b nm sp m h =
       let o : TopIs nm w N st.top p u sp m = t.gives nm sp m h in
       protocol_from m o.tree o.rest o.is ∙ in_name o.tree (restack o.rest m) (sym o.lies.kind_is ∙ a) ∙ rw (b nm (for_push (size o.tree) sp) (restack o.rest m) o.holds) refl

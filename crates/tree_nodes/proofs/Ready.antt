@@ -15,7 +15,7 @@ use Rattle.tree_records.specs.Lies.{at}
 use Rattle.tree_records.specs.Holds.{Spare, Inside, Ready, Took, Grew, for_record}
 use Rattle.tree_records.specs.declared.State.{State}
 use Rattle.tree_nodes.specs.Gives.{spare, nothing_spare, taken, Gives, GivesIf, GivesName, Marks, WrapsTo}
-use Rattle.tree_nodes.specs.declared.Marked.{Marked}
+use Rattle.tree_nodes.specs.Results.{Marked}
 use Rattle.tree_nodes.proofs.Taking.{less_spare}
 
 module _ {w : List ℕ} {N : ℕ} {st : State} where

@@ -3,7 +3,7 @@ use Rattle.std.specs.Prelude.{if◌then◌else◌}
 use mathlib.Core.Path.{◌≡◌, refl, sym, ap, ◌∙◌, subst}
 use mathlib.Core.Bool.{Bool, true, false}
 use mathlib.Core.List.{List, [], ◌∷◌}
-use mathlib.Core.Option.{Option, some, none}
+use mathlib.Core.Option.{some, none}
 use lib.Dec.{T, eqb}
 use Prim.Native.Nat.{ℕ, ◌+◌, ◌*◌, ◌≤◌, ◌<◌}
 use native.Mathlib.Omega.{arith}
@@ -17,11 +17,9 @@ use Rattle.definition.specs.Machine.{restack}
 use Rattle.definition.specs.Perform as R
 use Rattle.definition.specs.Perform.{Demangler, Run}
 use Rattle.tree_records.specs.Lies.{at, Lies}
-use Rattle.tree_records.specs.Holds.{Names, Named, Spare, Holds, Ready, TopIs, Took, Pops, Keeps}
-use Rattle.tree_records.specs.declared.Popped.{Popped}
-use Rattle.tree_records.specs.declared.Popped.TheVariants as Popped
+use Rattle.tree_records.specs.Holds.{Names, Named, Spare, Holds, Ready, TopIs, Took, Keeps}
 use Rattle.tree_records.specs.declared.State.{State}
-use Rattle.tree_nodes.specs.Gives.{nothing_spare, taken, Gives, GivesIf, Tries, Marks, GivesName}
+use Rattle.tree_nodes.specs.Gives.{nothing_spare, taken, Gives, GivesIf, Marks, GivesName}
 use Rattle.tree_nodes.proofs.ByKind.{identifier_of}
 
 -- a place below top is a record inside the workspace
@@ -87,13 +85,6 @@ pub pop_if_empty : (want : ℕ → Bool) (m : Demangler) → m.stack ≡ [] → 
 unfolding M.pop_if M.pop_from
 pop_if_empty want m e = rw e refl
 
--- the result of an arm of `pop`
-pub popped : {w : List ℕ} {N : ℕ} {st : State} {r : Popped} (p : ℕ) (u : State) → r ≡ Popped.Place p u → Pops w N st r → Took w N st p u
-popped {w} {N} {st} p u e h = subst (λ (x : Popped). Pops w N st x) e h
-
-pub popped_nothing : {w : List ℕ} {N : ℕ} {st : State} {r : Popped} → r ≡ Popped.Nothing → Pops w N st r → (nm : Names) (sp : Spare) (m : Demangler) → Holds nm w N st sp m → m.stack ≡ []
-popped_nothing {w} {N} {st} e h = subst (λ (x : Popped). Pops w N st x) e h
-
 -- with no refusal
 module _ {w : List ℕ} {N : ℕ} {st u : State} {p : ℕ} (want : ℕ → Bool) (t : Took w N st p u) where
   try_from_top : (m : Demangler) (x : Node) (xs : List Node) (b : Bool) → m.stack ≡ x ∷ xs → want (kind x) ≡ b → R.try want m ≡ (if b then ok (some x) (restack xs m) else ok none m)
@@ -157,13 +148,6 @@ try_empty want m e = rw e refl
 pub name_empty : (m : Demangler) → m.stack ≡ [] → R.pop_name m ≡ refused 10
 unfolding R.pop_name M.pop M.pop_if M.pop_from
 name_empty m e = rw e refl
-
--- the result of an arm for what may be missing
-pub tried : (f : Run (Option Node)) {w : List ℕ} {N : ℕ} {st : State} {r : Popped} (p : ℕ) (u : State) → r ≡ Popped.Place p u → Tries f w N st r → GivesIf f w N st p u
-tried f {w} {N} {st} p u e h = subst (λ (x : Popped). Tries f w N st x) e h
-
-pub tried_nothing : (f : Run (Option Node)) {w : List ℕ} {N : ℕ} {st : State} {r : Popped} → r ≡ Popped.Nothing → Tries f w N st r → (nm : Names) (sp : Spare) (m : Demangler) → Holds nm w N st sp m → f m ≡ ok none m
-tried_nothing f {w} {N} {st} e h = subst (λ (x : Popped). Tries f w N st x) e h
 
 -- a marker was there, or not
 pub marked : {w : List ℕ} {N : ℕ} {st u : State} {p : ℕ} (k : ℕ) → GivesIf (R.try (eqb k)) w N st p u → Marks (R.took k) w N st (record { taken = true; next = u })

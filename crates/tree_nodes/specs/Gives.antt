@@ -1,29 +1,19 @@
 -- What code that takes a tree from the stack says, and what the code of an operator says, about the
 -- definition's steps.
 use Rattle.std.specs.Prelude.{◌≡◌, Bool, List, [], ◌∷◌, ◌++◌, ℕ, ◌+◌, ◌*◌, ◌^◌, ◌≤◌, ◌<◌, ◌/◌, ◌%◌, length, get_or}
-use Rattle.std.proofs.Math.Option.{Option, some, none}
+use Rattle.std.proofs.Math.Option.{Option, some}
 use Prim.Native.String.{String}
 use Rattle.definition.specs.Base.{Name, ok, refused, Done, ret, ◌>>=◌}
 use Rattle.definition.specs.Node.{Node, FunctionType, kind, size, count}
 use Rattle.definition.specs.Perform.{Demangler, Run, pop_if, function_params}
 use Rattle.definition.specs.Machine.{machine, restack, push, wrap}
 use Rattle.definition.specs.Enums.{number}
-use Rattle.machine.specs.Beyond.{Beyond}
 use Rattle.tree_records.specs.Lies.{at, Child, Body, Lies, Would}
 use Rattle.tree_records.specs.Holds.{Fixed, Names, Named, Spare, Inside, Holds, Keeps, for_record, for_push, for_keeping}
 use Rattle.tree_records.specs.declared.State.{State}
-use Rattle.tree_records.specs.declared.Popped.{Popped}
-use Rattle.tree_records.specs.declared.Popped.TheVariants as Popped
-use Rattle.tree_nodes.specs.declared.Built.{Built}
-use Rattle.tree_nodes.specs.declared.Built.TheVariants as Built
-use Rattle.tree_nodes.specs.declared.Placed.{Placed}
-use Rattle.tree_nodes.specs.declared.Marked.{Marked}
-use Rattle.tree_nodes.specs.declared.Step.{Step}
-use Rattle.tree_nodes.specs.declared.Step.TheVariants as Step
-use Rattle.tree_nodes.specs.declared.WrapSpent.{WrapSpent}
-use Rattle.tree_nodes.specs.declared.WrapSpent.TheVariants as WrapSpent
-use Rattle.tree_nodes.specs.declared.NameTaken.{NameTaken}
-use Rattle.tree_nodes.specs.declared.NameTaken.TheVariants as NameTaken
+use Rattle.tree_nodes.specs.Results.{Placed}
+use Rattle.tree_nodes.specs.Results.{Marked}
+use Rattle.tree_nodes.specs.Results.{Step}
 
 abbrev pub spare : (makes pushes nodes keeps : ℕ) → Spare
 spare a b c d = record { makes = a; pushes = b; nodes = c; keeps = d }
@@ -62,10 +52,6 @@ pub record Under (w : List ℕ) (N : ℕ) (st : State) (p : ℕ) : Type 0 where
   pub below : p < st.top
   pub fits : at w p 1 + 1 < 2 ^ 32
 
-abbrev pub Takes : Run Node → (gain : ℕ) → (w w' : List ℕ) (N : ℕ) (st : State) → Popped → Type 0
-Takes f gain w w' N st (Popped.Place p u) = Gives f gain w w' N st p u
-Takes f gain w w' N st Popped.Nothing = ((nm : Names) (sp : Spare) (m : Demangler) → Holds nm w N st sp m → f m ≡ refused 10) × Beyond 64 N w w'
-
 -- a tree that is made of what is taken: that many more nodes than were taken
 abbrev pub for_nodes : ℕ → Spare → Spare
 for_nodes z sp = spare sp.makes sp.pushes (sp.nodes + z) sp.keeps
@@ -77,10 +63,6 @@ pub record Building (f : Run Node) (own gain : ℕ) (w w' : List ℕ) (N : ℕ) 
   pub small : at w' p 1 ≤ most
   pub keeps : Keeps w w' N st.top
   pub gives : (nm : Names) (sp : Spare) (m : Demangler) → Holds nm w N st (for_nodes own sp) m → Given f gain nm w' N p u sp m
-
-abbrev pub Builds : Run Node → (own gain : ℕ) → (w w' : List ℕ) (N : ℕ) (st : State) → Built → Type 0
-Builds f own gain w w' N st (Built.Place p u) = Building f own gain w w' N st p u
-Builds f own gain w w' N st (Built.Refused r) = ((nm : Names) (sp : Spare) (m : Demangler) → Holds nm w N st sp m → f m ≡ refused (number r)) × Beyond 64 N w w'
 
 -- a tree that may be missing: f takes it, or leaves the machine unchanged
 pub record GivenIf (f : Run (Option Node)) (nm : Names) (w : List ℕ) (N p : ℕ) (u : State) (sp : Spare) (m : Demangler) : Type 0 where
@@ -96,10 +78,6 @@ pub record GivesIf (f : Run (Option Node)) (w : List ℕ) (N : ℕ) (st : State)
   pub top : u.top ≡ st.top
   pub small : at w p 1 ≤ most
   pub gives : (nm : Names) (sp : Spare) (m : Demangler) → Holds nm w N st sp m → GivenIf f nm w N p u sp m
-
-abbrev pub Tries : Run (Option Node) → (w : List ℕ) (N : ℕ) (st : State) → Popped → Type 0
-Tries f w N st (Popped.Place p u) = GivesIf f w N st p u
-Tries f w N st Popped.Nothing = (nm : Names) (sp : Spare) (m : Demangler) → Holds nm w N st sp m → f m ≡ ok none m
 
 -- a marker: whether it was there, and the state without it
 pub record Marks (f : Run Bool) (w : List ℕ) (N : ℕ) (st : State) (r : Marked) : Type 0 where
@@ -119,10 +97,6 @@ pub record GivesName (f : Run Name) (w : List ℕ) (N : ℕ) (st : State) (k : �
   pub deep : u.depth < st.depth
   pub top : u.top ≡ st.top
   pub gives : (nm : Names) (sp : Spare) (m : Demangler) → Holds nm w N st sp m → GivenName f nm w N k u sp m
-
-abbrev pub TakesName : Run Name → (w : List ℕ) (N : ℕ) (st : State) → NameTaken → Type 0
-TakesName f w N st (NameTaken.Name k u) = GivesName f w N st k u
-TakesName f w N st NameTaken.Nothing = (nm : Names) (sp : Spare) (m : Demangler) → Holds nm w N st sp m → f m ≡ refused 10
 
 -- what an operator may spend: its turn was charged 1
 abbrev pub full_spare : Spare
@@ -189,10 +163,6 @@ pub record WrapsTo (w : List ℕ) (N : ℕ) (st u : State) : Type 0 where
   pub seen : u.seen ≡ st.seen
   pub total : u.budget.total ≡ st.budget.total
   pub gives : (nm : Names) (sp : Spare) (m : Demangler) → Holds nm w N st sp m → (m' : Demangler) × (wrap m ≡ ok tt m') × Holds nm w N u sp m'
-
-abbrev pub Wraps : (w : List ℕ) (N : ℕ) (st : State) → WrapSpent → Type 0
-Wraps w N st (WrapSpent.Next u) = WrapsTo w N st u
-Wraps w N st WrapSpent.Refused = (nm : Names) (sp : Spare) (m : Demangler) → Holds nm w N st sp m → wrap m ≡ refused 8
 
 -- the nodes of a kind that have one child, in field 3
 pub record OneChild (k : ℕ) (c : Node → Node) : Type 0 where

@@ -1,1 +1,3 @@
+pub mod Results
 pub mod Gives
+pub mod Trees

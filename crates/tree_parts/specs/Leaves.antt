@@ -8,9 +8,7 @@ use Rattle.definition.specs.Perform.{Demangler, Run, accessed}
 use Rattle.definition.specs.Machine.{push}
 use Rattle.definition.specs.Enums.{number}
 use Rattle.definition.specs.declared.Accessor.{Accessor}
-use Rattle.definition.specs.declared.Accessor.TheVariants as Accessor
-use Rattle.tree_nodes.specs.declared.Step.{Step}
-use Rattle.tree_nodes.specs.declared.Step.TheVariants as Step
+use Rattle.tree_nodes.specs.Results.{Step}
 use Rattle.tree_records.specs.Lies.{at, Lies}
 use Rattle.tree_records.specs.Holds.{Fixed, Names, Named, Spare, Holds}
 use Rattle.tree_records.specs.declared.State.{State}

@@ -12,15 +12,15 @@ use Rattle.tree_parts.specs.declared.record.Qualified.{Qualified}
 
 -- a protocol was taken if there was one, and w holds its cell: for any later record whose field 6
 -- is its place
-pub record Qualifier (nm : Names) (w : List ℕ) (N : ℕ) (r : Qualified) (sp : Spare) (m : Demangler) : Type 0 where
+pub record Qualifier (nm : Names) (w : List ℕ) (N : ℕ) (r : Qualified) (u : State) (sp : Spare) (m : Demangler) : Type 0 where
   pub protocol : Option Node
   pub machine : Demangler
   pub is : try K.is_protocol m ≡ ok protocol machine
   pub form : r.form ≡ 2 + 2 * many (one_or_none protocol)
-  pub lies : (f : ℕ → ℕ) (p : ℕ) → f 6 ≡ r.cell → r.next.top ≤ p → Cells (Named nm) (one_or_none protocol) 6 f w p
-  pub holds : Holds nm w N r.next sp machine
+  pub lies : (f : ℕ → ℕ) (p : ℕ) → f 6 ≡ r.cell → u.top ≤ p → Cells (Named nm) (one_or_none protocol) 6 f w p
+  pub holds : Holds nm w N u sp machine
 
-pub record Qualifies (w w' : List ℕ) (N : ℕ) (st : State) (r : Qualified) : Type 0 where
-  pub rising : st.top ≤ r.next.top
+pub record Qualifies (w w' : List ℕ) (N : ℕ) (st u : State) (r : Qualified) : Type 0 where
+  pub rising : st.top ≤ u.top
   pub keeps : Keeps w w' N st.top
-  pub gives : (nm : Names) (sp : Spare) (m : Demangler) → Holds nm w N st sp m → Qualifier nm w' N r sp m
+  pub gives : (nm : Names) (sp : Spare) (m : Demangler) → Holds nm w N st sp m → Qualifier nm w' N r u sp m

@@ -2,3 +2,4 @@ pub mod Frame
 pub mod Stores
 pub mod Tops
 pub mod Places
+pub mod Exits

@@ -1,19 +1,17 @@
 -- The stack and the remembered nodes are unchanged if their places and the records are unchanged;
 -- one more place.
-use mathlib.Core.Path.{◌≡◌, refl, sym, ap, ◌∙◌, subst}
+use mathlib.Core.Path.{◌≡◌, refl, sym, ap, subst}
 use mathlib.Core.Logic.{◌≢◌}
 use mathlib.Core.List.{List, [], ◌∷◌, ◌++◌}
-use Prim.Native.Nat.{ℕ, suc, ◌+◌, ◌-◌, ◌*◌, ◌^◌, ◌≤◌, ◌<◌}
+use Prim.Native.Nat.{ℕ, suc, ◌+◌, ◌*◌, ◌≤◌, ◌<◌}
 use native.Mathlib.Omega.{arith}
 use native.Mathlib.Numerals.{add-one}
 use lib.ListN.{length, get_or, set, length-set}
 use lib.Seq.{get_or-set_same, get_or-set_other}
-use Rattle.definition.specs.Node.{Node, size}
-use Rattle.definition.specs.Machine.{machine, restack}
-use Rattle.definition.specs.Perform.{Demangler}
-use Rattle.tree_records.specs.Lies.{Lies, Would}
+use Rattle.definition.specs.Node.{Node}
+use Rattle.tree_records.specs.Lies.{Lies}
 use Rattle.tree_records.specs.Made.{Wrote}
-use Rattle.tree_records.specs.Holds.{Names, Named, weight, Stack, Queue, Spare, Inside, Holds, for_record, for_push, for_keeping, Keeps, Grew, Pushed, Remembered}
+use Rattle.tree_records.specs.Holds.{Names, Named, weight, Stack, Queue, Inside, Keeps, Grew, Pushed, Remembered}
 use Rattle.tree_records.specs.declared.State.{State}
 use Rattle.tree_records.proofs.Frame.{Same, lies_still}
 use Rattle.tree_records.proofs.Stores.{made}

@@ -1,5 +1,5 @@
 -- Several stores in a row, as code makes them, and what they leave unchanged.
-use mathlib.Core.Path.{◌≡◌, refl, sym, ap, ◌∙◌}
+use mathlib.Core.Path.{◌≡◌, refl, ap, ◌∙◌}
 use mathlib.Core.Logic.{◌≢◌}
 use mathlib.Core.List.{List, [], ◌∷◌}
 use Prim.Native.Nat.{ℕ, zero, suc, ◌+◌, ◌*◌, ◌≤◌, ◌<◌}
@@ -9,9 +9,9 @@ use lib.ListN.{length, get_or, set, length-set}
 use lib.Seq.{sets, length-sets, get_or-set_same, get_or-set_other}
 use Rattle.definition.specs.Base.{Name}
 use Rattle.definition.specs.Node.{Node}
-use Rattle.tree_records.specs.Lies.{at, Would, Lies}
+use Rattle.tree_records.specs.Lies.{Would, Lies}
 use Rattle.tree_records.specs.Made.{Wrote}
-use Rattle.tree_records.proofs.Frame.{Same, Agree, would_stay}
+use Rattle.tree_records.proofs.Frame.{would_stay}
 
 less : {i j : ℕ} → i < j → i ≢ j
 less h e = omega arith

@@ -1,11 +1,10 @@
 -- The top of the stack, for any machine that the workspace holds.
-use mathlib.Core.Path.{◌≡◌, refl, sym, ap, ◌∙◌, subst}
+use mathlib.Core.Path.{◌≡◌, refl, sym, subst}
 use mathlib.Core.List.{List, [], ◌∷◌}
 use Prim.Native.Nat.{ℕ, suc, ◌+◌, ◌-◌, ◌*◌, ◌^◌, ◌≤◌, ◌<◌}
 use native.Mathlib.Omega.{arith}
-use lib.ListN.{length, get_or}
+use lib.ListN.{get_or}
 use Rattle.definition.specs.Node.{Node, size}
-use Rattle.definition.specs.Machine.{restack}
 use Rattle.definition.specs.Perform.{Demangler}
 use Rattle.tree_records.specs.Lies.{Lies}
 use Rattle.tree_records.specs.Holds.{Names, Named, weight, Stack, stack_base, Spare, Holds, TopIs, Took}

@@ -12,8 +12,6 @@ use Rattle.definition.proofs.WordsAdded.{Looked}
 use Rattle.machine.specs.Spent.{budget_of}
 use Rattle.tree_records.specs.Lies.{at, Would, Lies}
 use Rattle.tree_records.specs.declared.State.{State}
-use Rattle.tree_records.specs.declared.Popped.{Popped}
-use Rattle.tree_records.specs.declared.Popped.TheVariants as Popped
 
 -- the fixed names that operators use, by number
 pub record Fixed (name : ℕ → String) : Type 0 where
@@ -126,10 +124,6 @@ pub record Took (w : List ℕ) (N : ℕ) (st : State) (p : ℕ) (u : State) : Ty
   pub budget : u.budget ≡ st.budget
   pub below : p < 2 ^ 32
   pub gives : (nm : Names) (sp : Spare) (m : Demangler) → Holds nm w N st sp m → TopIs nm w N st.top p u sp m
-
-abbrev pub Pops : (w : List ℕ) (N : ℕ) (st : State) → Popped → Type 0
-Pops w N st (Popped.Place p u) = Took w N st p u
-Pops w N st Popped.Nothing = (nm : Names) (sp : Spare) (m : Demangler) → Holds nm w N st sp m → m.stack ≡ []
 
 -- the records below the place top are unchanged, and so are the trees in them and everything past
 -- 64 × N

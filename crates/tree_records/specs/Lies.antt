@@ -1,7 +1,7 @@
 -- How a tree is stored in the workspace of 32-bit numbers: one record of 8 numbers for each node,
 -- at place p in w[8p .. 8p + 8]. The first three numbers of every record are kind, size and count.
 -- Children, and the cells of lists, are at smaller places.
-use Rattle.std.specs.Prelude.{◌≡◌, Bool, true, false, List, [], ◌∷◌, ℕ, suc, ◌+◌, ◌*◌, ◌^◌, ◌≤◌, ◌<◌, T, length, get_or}
+use Rattle.std.specs.Prelude.{◌≡◌, Bool, true, false, List, [], ◌∷◌, ℕ, suc, ◌+◌, ◌*◌, ◌^◌, ◌<◌, T, length, get_or}
 use Rattle.std.proofs.Math.Option.{Option, some, none}
 use Rattle.definition.specs.Base.{Name}
 use Rattle.definition.specs.Kind as K

@@ -3,7 +3,7 @@ use Rattle.std.specs.Prelude.{List}
 use Rattle.definition.specs.Base.{Name}
 use Rattle.definition.specs.Text.{Text}
 use Rattle.text_words.specs.Table.{table}
-use Rattle.text_words.specs.declared.Words.{Words}
+use Rattle.text_words.specs.Table.{Words}
 use Rattle.operator_names.specs.Fixed.{fixed}
 use Rattle.operator_names.proofs.FixedNames.{fixed_swift, fixed_any_object, fixed_optional, fixed_associated_type, fixed_past}
 use Rattle.tree_records.specs.Holds.{Fixed, Names}

@@ -4,10 +4,12 @@
 
 ghost use Rattle.std.specs.Prelude.{◌≡◌, List, [], ◌∷◌, ◌+◌, ◌*◌, ◌^◌, ◌≤◌, ◌<◌, length};
 ghost use Rattle.tree_records.specs.Lies.{at};
-ghost use Rattle.tree_records.specs.Made.{Wrote};
-ghost use Rattle.tree_records.specs.Holds.{Inside, Pops, Grew, Pushed, Remembered};
+ghost use Rattle.tree_records.specs.Holds.{Inside, Grew, Pushed, Remembered};
+ghost use Rattle.tree_records.specs.Trees.{Stays, Reads, Peeks, Pops, numbers};
 
+use definition::Refusal;
 use machine::budget::Budget;
+use machine::kinds::Kind;
 
 // The counts, the number of records, and the numbers of places on the stack and remembered.
 #[derive(Clone, Copy)]
@@ -18,21 +20,141 @@ pub struct State {
     pub seen: usize,
 }
 
-// The place of the top tree, and the state without it.
-#[derive(Clone, Copy)]
-pub enum Popped {
-    Place(usize, State),
-    Nothing,
+// Trees as records in a lent workspace: 8 numbers for each record, children given by place. The
+// ceiling is n. The places on the stack are stored from 60 * n on, and those that are remembered
+// from 61 * n on.
+#[derive(Drop)]
+pub struct Trees<'a> {
+    pub ws: &'a mut [u32],
+    pub n: usize,
+    pub state: State,
 }
 
-// The fields of a record after its kind, size and count.
-#[derive(Clone, Copy)]
-pub struct Fields {
+// The 8 numbers of a record: its kind, size and count, and 5 that its kind gives a meaning. A cell
+// of a list is a record, too: its label, its tree and the cell after it are a, b and c.
+#[derive(Clone, Copy, Debug, PartialEq, Eq)]
+pub struct Record {
+    pub kind: Kind,
+    pub size: u32,
+    pub count: u32,
     pub a: u32,
     pub b: u32,
     pub c: u32,
     pub d: u32,
     pub e: u32,
+}
+
+impl Record {
+    // Where each number is.
+    pub const KIND: usize = 0;
+
+    pub const SIZE: usize = 1;
+
+    pub const COUNT: usize = 2;
+
+    pub const A: usize = 3;
+
+    pub const B: usize = 4;
+
+    // The number that says that a label is missing.
+    pub const NO_LABEL: u32 = 4294967295;
+
+    // A record whose numbers are 0, among them that of its kind.
+    pub const ZERO: Record = Record {
+        kind: Kind::Identifier,
+        size: 0,
+        count: 0,
+        a: 0,
+        b: 0,
+        c: 0,
+        d: 0,
+        e: 0,
+    };
+}
+
+impl Trees<'_> {
+    // Returns one number of the record at a place.
+    pub fn field(&self, place: usize, k: usize) -> u32
+        requires { (8 * place + 8 ≤ length self.now.ws.now) × (k < 8) }
+        ensures { result ≡ at self.now.ws.now place k }
+    {
+        self.ws[8 * place + k]
+    }
+
+    // Returns a number of the record at a place that is the place of another.
+    pub fn child(&self, place: usize, k: usize) -> usize
+        requires { (8 * place + 8 ≤ length self.now.ws.now) × (k < 8) }
+        ensures { (result ≡ at self.now.ws.now place k) × (result < 2 ^ 32) }
+    {
+        wide(self.field(place, k))
+    }
+
+    // Returns the place of the top of the stack, and leaves it there.
+    pub fn peek(&self) -> Option<usize>
+        requires { Inside self.now.ws.now self.now.n self.now.state 0 0 0 }
+        ensures { Peeks self.now result }
+    {
+        if self.state.depth == 0 {
+            return None;
+        }
+        Some(wide(self.ws[60 * self.n + self.state.depth - 1]))
+    }
+
+    // Takes the place of the top of the stack.
+    pub fn pop(&mut self) -> Result<usize, Refusal>
+        requires { Inside self.old.ws.now self.old.n self.old.state 0 0 0 }
+        ensures reads { Reads self.old self.new }
+        ensures pops { Pops self.old self.new result }
+    {
+        let Some(place) = self.peek() else {
+            return Err(Refusal::Stack);
+        };
+        self.state.depth -= 1;
+        Ok(place)
+    }
+
+    // Makes a record, and returns its place.
+    pub fn grow(&mut self, made: Record) -> usize
+        requires { Inside self.old.ws.now self.old.n self.old.state 2 0 0 }
+        ensures stays { Stays self.old self.new }
+        ensures grew { Grew self.old.ws.now self.new.ws.now self.old.n self.old.state self.new.state (numbers made) }
+        ensures place { result ≡ self.old.state.top }
+    {
+        let place = self.state.top;
+        let i = 8 * place;
+        self.ws[i] = made.kind.code();
+        self.ws[i + 1] = made.size;
+        self.ws[i + 2] = made.count;
+        self.ws[i + 3] = made.a;
+        self.ws[i + 4] = made.b;
+        self.ws[i + 5] = made.c;
+        self.ws[i + 6] = made.d;
+        self.ws[i + 7] = made.e;
+        self.state.top += 1;
+        place
+    }
+
+    // Pushes a place.
+    pub fn push(&mut self, place: usize)
+        requires inside { Inside self.old.ws.now self.old.n self.old.state 3 1 0 }
+        requires place_bound { place < 2 ^ 32 }
+        ensures stays { Stays self.old self.new }
+        ensures pushed { Pushed self.old.ws.now self.new.ws.now self.old.n self.old.state self.new.state place }
+    {
+        self.ws[60 * self.n + self.state.depth] = place as u32;
+        self.state.depth += 1;
+    }
+
+    // Remembers a place.
+    pub fn remember(&mut self, place: usize)
+        requires inside { Inside self.old.ws.now self.old.n self.old.state 0 0 1 }
+        requires place_bound { place < 2 ^ 32 }
+        ensures stays { Stays self.old self.new }
+        ensures remembered { Remembered self.old.ws.now self.new.ws.now self.old.n self.old.state self.new.state place }
+    {
+        self.ws[61 * self.n + self.state.seen] = place as u32;
+        self.state.seen += 1;
+    }
 }
 
 // Returns field k of the record at place p.
@@ -43,86 +165,8 @@ pub fn field(ws: &[u32], p: usize, k: usize) -> u32
     ws[8 * p + k]
 }
 
-// Writes one record at place p.
-pub fn make(ws: &mut [u32], p: usize, kind: u32, size: u32, count: u32, rest: Fields)
-    requires { 8 * p + 8 ≤ length ws.old }
-    ensures { Wrote ws.old ws.new p (kind ∷ size ∷ count ∷ rest.a ∷ rest.b ∷ rest.c ∷ rest.d ∷ rest.e ∷ []) }
-{
-    let i = 8 * p;
-    ws[i] = kind;
-    ws[i + 1] = size;
-    ws[i + 2] = count;
-    ws[i + 3] = rest.a;
-    ws[i + 4] = rest.b;
-    ws[i + 5] = rest.c;
-    ws[i + 6] = rest.d;
-    ws[i + 7] = rest.e;
-}
-
 pub fn wide(x: u32) -> usize
     ensures { (result ≡ x) × (result < 2 ^ 32) }
 {
     x as usize
-}
-
-// Takes the top of the stack.
-pub fn pop(ws: &[u32], n: usize, st: State) -> Popped
-    requires { Inside ws.now n st 0 0 0 }
-    ensures { Pops ws.now n st result }
-{
-    let depth = st.depth;
-    if depth == 0 {
-        return Popped::Nothing;
-    }
-    let d = depth - 1;
-    let p = wide(ws[60 * n + d]);
-    let mut next = st;
-    next.depth = d;
-    Popped::Place(p, next)
-}
-
-// Adds a record at the place st.top.
-pub fn grow(
-    ws: &mut [u32],
-    n: usize,
-    st: State,
-    kind: u32,
-    size: u32,
-    count: u32,
-    rest: Fields,
-) -> State
-    requires { Inside ws.old n st 2 0 0 }
-    ensures { Grew ws.old ws.new n st result (kind ∷ size ∷ count ∷ rest.a ∷ rest.b ∷ rest.c ∷ rest.d ∷ rest.e ∷ []) }
-{
-    let top = st.top;
-    make(ws, top, kind, size, count, rest);
-    let mut next = st;
-    next.top = top + 1;
-    next
-}
-
-// Pushes the place p.
-pub fn push(ws: &mut [u32], n: usize, st: State, p: usize) -> State
-    requires inside { Inside ws.old n st 3 1 0 }
-    requires p_bound { p < 2 ^ 32 }
-    ensures { Pushed ws.old ws.new n st result p }
-{
-    let depth = st.depth;
-    ws[60 * n + depth] = p as u32;
-    let mut next = st;
-    next.depth = depth + 1;
-    next
-}
-
-// Remembers the place p.
-pub fn remember(ws: &mut [u32], n: usize, st: State, p: usize) -> State
-    requires inside { Inside ws.old n st 0 0 1 }
-    requires p_bound { p < 2 ^ 32 }
-    ensures { Remembered ws.old ws.new n st result p }
-{
-    let seen = st.seen;
-    ws[61 * n + seen] = p as u32;
-    let mut next = st;
-    next.seen = seen + 1;
-    next
 }

@@ -8,7 +8,7 @@ use Prim.Native.String.{String}
 use native.Mathlib.Omega.{arith}
 use lib.Dec.{eqb}
 use borrow.Author.Tests.{ne_eqb}
-use Rattle.definition.specs.Base.{Done, bytes, refused, ◌>>=◌, ◌>>◌}
+use Rattle.definition.specs.Base.{bytes, refused, ◌>>=◌}
 use Rattle.definition.specs.Kind as K
 use Rattle.definition.specs.Enums as E
 use Rattle.definition.specs.Enums.{number}
@@ -18,21 +18,21 @@ use Rattle.definition.specs.Machine.{restack, push}
 use Rattle.definition.specs.Perform as R
 use Rattle.definition.specs.Perform.{Demangler, Run}
 use Rattle.definition.specs.declared.Constraint.{Constraint}
-use Rattle.definition.specs.declared.Constraint.TheVariants as Constraint
 use Rattle.definition.specs.declared.Subject.{Subject}
-use Rattle.definition.specs.declared.Subject.TheVariants as Subject
 use Rattle.definition.specs.declared.Param.{Param}
-use Rattle.definition.specs.declared.Refusal.TheVariants as Refusal
 use Rattle.tree_records.specs.Lies.{at, Lies}
 use Rattle.tree_records.specs.Holds.{Fixed, Names, Named, Spare, Inside, Holds, Ready, Keeps, Grew, for_record, for_push}
-use Rattle.tree_records.specs.declared.Popped.{Popped}
-use Rattle.tree_records.specs.declared.Popped.TheVariants as Popped
+use Rattle.std.specs.Prelude.{Result, Ok, Err}
+use Rattle.definition.specs.declared.Refusal.{Refusal}
+use Rattle.tree_records.specs.Trees.{Reads}
+use Rattle.tree_records.specs.declared.Trees.{Trees}
+use Rattle.tree_nodes.specs.Trees.{Refuses, Takes as Takes-in}
+use Rattle.tree_nodes.proofs.Steps.{refuses_first}
 use Rattle.tree_records.specs.declared.State.{State}
-use Rattle.tree_nodes.specs.declared.Placed.{Placed}
-use Rattle.tree_nodes.specs.declared.Step.{Step}
-use Rattle.tree_nodes.specs.declared.Step.TheVariants as Step
+use Rattle.tree_nodes.specs.Results.{Placed}
+use Rattle.tree_nodes.specs.Results.{Step}
 use Rattle.machine.specs.Beyond.{Beyond, beyond_itself}
-use Rattle.tree_nodes.specs.Gives.{spare, nothing_spare, full_spare, for_nodes, taken, Gives, Takes, GivesName, Makes, Operates, Left}
+use Rattle.tree_nodes.specs.Gives.{spare, nothing_spare, full_spare, for_nodes, taken, Gives, GivesName, Makes, Operates, Left}
 use Rattle.tree_nodes.proofs.Taking.{less_spare}
 use Rattle.tree_nodes.proofs.Leaving.{keeps_then}
 use Rattle.tree_nodes.proofs.Ready.{after_given, room}
@@ -125,10 +125,6 @@ module _ {w : List ℕ} {N : ℕ} {st : State} (on : Subject) where
         };
   })
 
-  pub subject_no_type : on ≡ Subject.OfStack → ((nm : Names) (sp : Spare) (m : Demangler) → Holds nm w N st sp m → R.pop_if K.is_type m ≡ refused 10) × Beyond 64 N w w → TakesSubject (R.subject (E.subject on)) w w N st Popped.Nothing
-  unfolding R.subject E.subject
-  subject_no_type e g = subst (λ (s : Subject). TakesSubject (R.subject (E.subject s)) w w N st Popped.Nothing) (sym e) g
-
   pub subject_member : {w' : List ℕ} {p : Param} {name : ℕ} {u : State} {r : Placed} → on ≡ Subject.OfMember p → GivesName R.assoc_type_name w N st name u → MakesMember p name w w' N u r → GivesSubject (R.subject (E.subject on)) w w' N st r.place r.next
   unfolding R.subject E.subject size
   subject_member {w'} {p} {name} {u} {r} e g k = subst (λ (s : Subject). GivesSubject (R.subject (E.subject s)) w w' N st r.place r.next) (sym e) (record {
@@ -149,10 +145,6 @@ module _ {w : List ℕ} {N : ℕ} {st : State} (on : Subject) where
               (less_spare (taken 3 1 (for_record (for_nodes 1 sp))) (for_record (for_record (for_nodes (1 + size (R.generic_param (E.param p))) sp))) (omega arith) (omega arith) (omega (arith, param_size p)) (omega arith) o.holds);
         };
   })
-
-  pub subject_no_name : {p : Param} → on ≡ Subject.OfMember p → ((nm : Names) (sp : Spare) (m : Demangler) → Holds nm w N st sp m → R.assoc_type_name m ≡ refused 10) → TakesSubject (R.subject (E.subject on)) w w N st Popped.Nothing
-  unfolding R.subject E.subject
-  subject_no_name e g = subst (λ (s : Subject). TakesSubject (R.subject (E.subject s)) w w N st Popped.Nothing) (sym e) (λ nm sp m h. rw (g nm sp m h) refl, beyond_itself w N)
 
 -- CONSTRAINTS
 pub conformance_two : TwoOver 13 ConformanceRequirement
@@ -216,17 +208,17 @@ module _ {w : List ℕ} {N : ℕ} {st : State} {p : ℕ} (on : Constraining w N 
   same_type {w₁} {w₂} {u} {v} c e g l = subst (λ (y : Constraint). Constrains y w w₂ N st p (Step.Done v)) (sym e) (record { ends = λ nm s f a. pair_ends g same_type_two l nm s a; beyond = pair_beyond g l })
 
   -- nothing wanted is on top
-  pub conforms_not : {w₁ : List ℕ} (c : Constraint) → c ≡ Constraint.Conforms → ((nm : Names) (sp : Spare) (m : Demangler) → Holds nm w N st sp m → R.protocol m ≡ refused 10) × Beyond 64 N w w₁ → Constrains c w w₁ N st p (Step.Refused Refusal.Stack)
-  unfolding R.requirement E.constraint number
-  conforms_not {w₁} c e g = subst (λ (y : Constraint). Constrains y w w₁ N st p (Step.Refused Refusal.Stack)) (sym e) (record { ends = λ nm s f a m h. rw (g.0 nm _ m h) refl; beyond = g.1 })
+  pub conforms_not : {w₁ : List ℕ} {r : Refusal} (c : Constraint) → c ≡ Constraint.Conforms → ((nm : Names) (sp : Spare) (m : Demangler) → Holds nm w N st sp m → R.protocol m ≡ refused (number r)) × Beyond 64 N w w₁ → Constrains c w w₁ N st p (Step.Refused r)
+  unfolding R.requirement E.constraint
+  conforms_not {w₁} {r} c e g = subst (λ (y : Constraint). Constrains y w w₁ N st p (Step.Refused r)) (sym e) (record { ends = λ nm s f a m h. rw (g.0 nm _ m h) refl; beyond = g.1 })
 
-  pub superclass_not : {w₁ : List ℕ} (c : Constraint) → c ≡ Constraint.Superclass → ((nm : Names) (sp : Spare) (m : Demangler) → Holds nm w N st sp m → R.pop_if K.is_type m ≡ refused 10) × Beyond 64 N w w₁ → Constrains c w w₁ N st p (Step.Refused Refusal.Stack)
-  unfolding R.requirement E.constraint number
-  superclass_not {w₁} c e g = subst (λ (y : Constraint). Constrains y w w₁ N st p (Step.Refused Refusal.Stack)) (sym e) (record { ends = λ nm s f a m h. rw (g.0 nm _ m h) refl; beyond = g.1 })
+  pub superclass_not : {w₁ : List ℕ} {r : Refusal} (c : Constraint) → c ≡ Constraint.Superclass → ((nm : Names) (sp : Spare) (m : Demangler) → Holds nm w N st sp m → R.pop_if K.is_type m ≡ refused (number r)) × Beyond 64 N w w₁ → Constrains c w w₁ N st p (Step.Refused r)
+  unfolding R.requirement E.constraint
+  superclass_not {w₁} {r} c e g = subst (λ (y : Constraint). Constrains y w w₁ N st p (Step.Refused r)) (sym e) (record { ends = λ nm s f a m h. rw (g.0 nm _ m h) refl; beyond = g.1 })
 
-  pub same_type_not : {w₁ : List ℕ} (c : Constraint) → c ≡ Constraint.SameType → ((nm : Names) (sp : Spare) (m : Demangler) → Holds nm w N st sp m → R.pop_if K.is_type m ≡ refused 10) × Beyond 64 N w w₁ → Constrains c w w₁ N st p (Step.Refused Refusal.Stack)
-  unfolding R.requirement E.constraint number
-  same_type_not {w₁} c e g = subst (λ (y : Constraint). Constrains y w w₁ N st p (Step.Refused Refusal.Stack)) (sym e) (record { ends = λ nm s f a m h. rw (g.0 nm _ m h) refl; beyond = g.1 })
+  pub same_type_not : {w₁ : List ℕ} {r : Refusal} (c : Constraint) → c ≡ Constraint.SameType → ((nm : Names) (sp : Spare) (m : Demangler) → Holds nm w N st sp m → R.pop_if K.is_type m ≡ refused (number r)) × Beyond 64 N w w₁ → Constrains c w w₁ N st p (Step.Refused r)
+  unfolding R.requirement E.constraint
+  same_type_not {w₁} {r} c e g = subst (λ (y : Constraint). Constrains y w w₁ N st p (Step.Refused r)) (sym e) (record { ends = λ nm s f a m h. rw (g.0 nm _ m h) refl; beyond = g.1 })
 
   -- layouts
   pub layout_broken : (b : Bool) → b ≡ false → Constrains (Constraint.Layout b) w w N st p (Step.Refused Refusal.Spelling)
@@ -263,17 +255,7 @@ module _ {w : List ℕ} {N : ℕ} {st : State} {p : ℕ} (on : Constraining w N 
     })
 
 -- THE OPERATOR
-pub subject_at : (f : Run Node) {w w' : List ℕ} {N : ℕ} {st : State} {r : Popped} (p : ℕ) (u : State) → r ≡ Popped.Place p u → TakesSubject f w w' N st r → GivesSubject f w w' N st p u
-subject_at f {w} {w'} {N} {st} p u e h = subst (λ (x : Popped). TakesSubject f w w' N st x) e h
-
-pub subject_not : (f : Run Node) {w w' : List ℕ} {N : ℕ} {st : State} {r : Popped} → r ≡ Popped.Nothing → TakesSubject f w w' N st r → ((nm : Names) (sp : Spare) (m : Demangler) → Holds nm w N st sp m → f m ≡ refused 10) × Beyond 64 N w w'
-subject_not f {w} {w'} {N} {st} e h = subst (λ (x : Popped). TakesSubject f w w' N st x) e h
-
 module _ (on : Subject) (c : Constraint) {w w₁ : List ℕ} {N : ℕ} {st : State} where
-  pub required_not : ((nm : Names) (sp : Spare) (m : Demangler) → Holds nm w N st sp m → R.subject (E.subject on) m ≡ refused 10) × Beyond 64 N w w₁ → Operates (required on c) w w₁ N st (Step.Refused Refusal.Stack)
-  unfolding number
-  required_not g = record { runs = λ nm m i h. rw (g.0 nm full_spare m h) refl; past = g.1.past; long = g.1.long }
-
   module _ {p : ℕ} {u : State} (g : GivesSubject (R.subject (E.subject on)) w w₁ N st p u) where
     pub constraining : Ready w N st full_spare → Constraining w₁ N u p
     constraining q =
@@ -298,10 +280,15 @@ module _ (on : Subject) (c : Constraint) {w w₁ : List ℕ} {N : ℕ} {st : Sta
       long = z.beyond.long ∙ g.keeps.long;
     }
 
--- the type on top, as in the result
-pub subject_popped : (on : Subject) (w : List ℕ) (N : ℕ) (st : State) (r : Popped) → on ≡ Subject.OfStack → Takes (R.pop_if K.is_type) 3 w w N st r → TakesSubject (R.subject (E.subject on)) w w N st r
-subject_popped on w N st (Popped.Place p u) e g = subject_stack on e g
-subject_popped on w N st Popped.Nothing e g = subject_no_type on e g
+-- the subject on the stack, and a name over a parameter
+pub subject_popped : (on : Subject) (t t' : Trees) (r : Result ℕ Refusal) → on ≡ Subject.OfStack → Reads t t' → Takes-in (R.pop_if K.is_type) 3 t t' r → TakesSubject (R.subject (E.subject on)) t t' r
+unfolding R.subject E.subject
+subject_popped on t t' (Ok p) e s g = rw s.slice (subject_stack on e (rw s.slice at g))
+subject_popped on t t' (Err r) e s g = subst (λ (y : Subject). Refuses (R.subject (E.subject y)) t t' r) (sym e) g
+
+pub subject_no_name : (on : Subject) (t t' : Trees) {p : Param} {r : Refusal} → on ≡ Subject.OfMember p → Refuses R.assoc_type_name t t' r → Refuses (R.subject (E.subject on)) t t' r
+unfolding R.subject E.subject
+subject_no_name on t t' {p} {r} e g = subst (λ (y : Subject). Refuses (R.subject (E.subject y)) t t' r) (sym e) (refuses_first _ g)
 
 -- the result for the constraint that was matched
 pub constrains_at : (c c' : Constraint) {w w' : List ℕ} {N : ℕ} {st : State} {p : ℕ} {r : Step} → c ≡ c' → Constrains c' w w' N st p r → Constrains c w w' N st p r

@@ -1,22 +1,23 @@
 -- What the code of requirements says about the definition's steps.
 use Rattle.std.specs.Prelude.{◌≡◌, List, ℕ, ◌+◌, ◌≤◌, ◌<◌}
-use Rattle.definition.specs.Base.{Name, ok, refused, ◌>>=◌}
+use Rattle.definition.specs.Base.{Name, ok, ◌>>=◌}
 use Rattle.definition.specs.Node.{Node, DependentMember, kind, size, count}
 use Rattle.definition.specs.Perform.{Demangler, Run, generic_param, subject, requirement}
 use Rattle.definition.specs.Enums as E
 use Rattle.definition.specs.declared.Constraint.{Constraint}
 use Rattle.definition.specs.declared.Subject.{Subject}
 use Rattle.definition.specs.declared.Param.{Param}
-use Rattle.tree_nodes.specs.declared.Placed.{Placed}
-use Rattle.tree_nodes.specs.declared.Step.{Step}
-use Rattle.tree_nodes.specs.declared.Step.TheVariants as Step
+use Rattle.tree_nodes.specs.Results.{Placed}
+use Rattle.tree_nodes.specs.Results.{Step}
 use Rattle.tree_records.specs.Lies.{at, Child, Body, Lies}
 use Rattle.tree_records.specs.Holds.{Fixed, Names, Named, Spare, Holds, Ready, Keeps, for_record}
 use Rattle.tree_records.specs.declared.State.{State}
 use Rattle.machine.specs.Beyond.{Beyond}
 use Rattle.tree_nodes.specs.Gives.{Performed, most, spare, for_nodes}
-use Rattle.tree_records.specs.declared.Popped.{Popped}
-use Rattle.tree_records.specs.declared.Popped.TheVariants as Popped
+use Rattle.std.specs.Prelude.{Result, Ok, Err}
+use Rattle.definition.specs.declared.Refusal.{Refusal}
+use Rattle.tree_records.specs.declared.Trees.{Trees}
+use Rattle.tree_nodes.specs.Trees.{Refuses}
 use Rattle.tree_parts.specs.Leaves.{Ends}
 
 -- REQUIREMENTS
@@ -36,9 +37,9 @@ pub record GivesSubject (f : Run Node) (w w' : List ℕ) (N : ℕ) (st : State) 
   pub readies : (nm : Names) (sp : Spare) (m : Demangler) → Holds nm w N st (for_record (for_nodes 1 sp)) m → (m₁ : Demangler) × Holds nm w' N u sp m₁
   pub gives : (nm : Names) (sp : Spare) (m : Demangler) → Fixed nm.fixed → Holds nm w N st (for_record (for_nodes 1 sp)) m → GivenSubject f nm w' N p u sp m
 
-abbrev pub TakesSubject : Run Node → (w w' : List ℕ) (N : ℕ) (st : State) → Popped → Type 0
-TakesSubject f w w' N st (Popped.Place p u) = GivesSubject f w w' N st p u
-TakesSubject f w w' N st Popped.Nothing = ((nm : Names) (sp : Spare) (m : Demangler) → Holds nm w N st sp m → f m ≡ refused 10) × Beyond 64 N w w'
+abbrev pub TakesSubject : Run Node → (t t' : Trees) → Result ℕ Refusal → Type 0
+TakesSubject f t t' (Ok p) = GivesSubject f t.ws.now t'.ws.now t.n t.state p t'.state
+TakesSubject f t t' (Err r) = Refuses f t t' r
 
 -- a member type of a generic parameter was made, with the name that a number represents
 pub record MakesMember (p : Param) (name : ℕ) (w w' : List ℕ) (N : ℕ) (st : State) (r : Placed) : Type 0 where

@@ -5,119 +5,122 @@ ghost use Rattle.std.specs.Prelude.{[], ◌∷◌, ◌+◌};
 ghost use Rattle.definition.specs.Enums as E;
 ghost use Rattle.definition.specs.declared.Constraint.TheVariants as Constraint;
 ghost use Rattle.definition.specs.Perform as R;
+ghost use Rattle.machine.specs.Kinds.{kind_of};
 ghost use Rattle.tree_records.specs.Lies.{at};
-ghost use Rattle.tree_records.specs.Holds.{Ready, Inside};
-ghost use Rattle.tree_nodes.specs.Gives.{spare, full_spare, Operates, Left};
+ghost use Rattle.tree_records.specs.Holds.{Inside};
+ghost use Rattle.tree_records.specs.Trees.{Stays, Has};
+ghost use Rattle.tree_nodes.specs.Gives.{spare, full_spare, Left};
+ghost use Rattle.tree_nodes.specs.Trees.{Operates, step_of};
 ghost use Rattle.tree_parts.specs.Leaves.{Entity};
 ghost use Rattle.tree_requirements.specs.Required.{TakesSubject, MakesMember, Constraining, Constrains, required};
 
 use definition::{Constraint, NominalKind, Param, Refusal, Subject};
-use machine::kinds::Want;
-use tree_nodes::{NameTaken, Placed, Step};
-use tree_records::{Fields, Popped, State};
+use machine::kinds::{Kind, Want};
+use tree_nodes::leave::{generic_param, push_new, standard_nominal};
+use tree_nodes::take::{assoc_type_name, pop_if, protocol};
+use tree_records::{Record, Trees};
 
-// Makes a member type of a generic parameter.
-fn member(ws: &mut [u32], n: usize, st: State, p: Param, name: u32) -> Placed
-    requires { Ready ws.old n st (spare 4 0 0 0) }
-    ensures { MakesMember p name ws.old ws.new n st result }
+// The number of the fixed name AnyObject.
+const ANY_OBJECT: usize = 3;
+
+// Makes a member type of a generic parameter, and returns its place.
+fn member(trees: &mut Trees, p: Param, name: u32) -> usize
+    requires { Has trees.old (spare 4 0 0 0) }
+    ensures stays { Stays trees.old trees.new }
+    ensures makes { MakesMember p name trees.old.ws.now trees.new.ws.now trees.old.n trees.old.state (record { place = result; next = trees.new.state }) }
 {
-    let base = tree_nodes::generic_param(ws, n, st, p);
-    let u = base.next;
-    let top = u.top;
-    let rest = Fields {
+    let base = generic_param(trees, p);
+    trees.grow(Record {
+        kind: Kind::DependentMember,
+        size: 2,
         a: name,
-        b: base.place as u32,
-        c: 0,
-        d: 0,
-        e: 0,
-    };
-    Placed {
-        place: top,
-        next: tree_records::grow(ws, n, u, 8, 2, 0, rest),
-    }
+        b: base as u32,
+        ..Record::ZERO
+    })
 }
 
 // Takes what a requirement constrains.
-fn subject(ws: &mut [u32], n: usize, st: State, subject: Subject) -> Popped
-    requires { Ready ws.old n st full_spare }
-    ensures { TakesSubject (R.subject (E.subject subject)) ws.old ws.new n st result }
+fn subject(trees: &mut Trees, on: Subject) -> Result<usize, Refusal>
+    requires { Has trees.old full_spare }
+    ensures stays { Stays trees.old trees.new }
+    ensures takes { TakesSubject (R.subject (E.subject on)) trees.old trees.new result }
 {
-    match subject {
-        Subject::OfParam(p) => {
-            let made = tree_nodes::generic_param(ws, n, st, p);
-            let next = made.next;
-            Popped::Place(made.place, next)
+    match on {
+        Subject::OfParam(p) => Ok(generic_param(trees, p)),
+        Subject::OfStack => pop_if(trees, Want::Type),
+        Subject::OfMember(p) => {
+            let name = assoc_type_name(trees)?;
+            Ok(member(trees, p, name))
         }
-        Subject::OfStack => tree_nodes::pop_if(ws, n, st, Want::Type),
-        Subject::OfMember(p) => match tree_nodes::assoc_type_name(ws, n, st) {
-            NameTaken::Name(name, u) => {
-                let made = member(ws, n, u, p, name);
-                let next = made.next;
-                Popped::Place(made.place, next)
-            }
-            NameTaken::Nothing => Popped::Nothing,
-        },
     }
 }
 
 // Pushes a requirement over the trees at two places.
-fn push_pair(ws: &mut [u32], n: usize, st: State, kind: u32, p: usize, q: usize) -> State
-    requires entity { Entity ws.old n st p q }
-    requires inside { Inside ws.old n st 5 1 0 }
-    ensures { Left ws.old ws.new n st result (kind ∷ (at ws.old p 1 + at ws.old q 1 + 1) ∷ 0 ∷ p ∷ q ∷ 0 ∷ 0 ∷ 0 ∷ []) }
+fn push_pair(trees: &mut Trees, kind: Kind, p: usize, q: usize)
+    requires entity { Entity trees.old.ws.now trees.old.n trees.old.state p q }
+    requires inside { Inside trees.old.ws.now trees.old.n trees.old.state 5 1 0 }
+    ensures stays { Stays trees.old trees.new }
+    ensures left { Left trees.old.ws.now trees.new.ws.now trees.old.n trees.old.state trees.new.state (kind_of kind ∷ (at trees.old.ws.now p 1 + at trees.old.ws.now q 1 + 1) ∷ 0 ∷ p ∷ q ∷ 0 ∷ 0 ∷ 0 ∷ []) }
 {
-    let size = tree_records::field(ws, p, 1) + tree_records::field(ws, q, 1);
-    let rest = Fields {
-        a: p as u32,
-        b: q as u32,
-        c: 0,
-        d: 0,
-        e: 0,
-    };
-    tree_nodes::push_new(ws, n, st, kind, size + 1, 0, rest)
+    let size = trees.field(p, Record::SIZE) + trees.field(q, Record::SIZE) + 1;
+    push_new(
+        trees,
+        Record {
+            kind,
+            size,
+            a: p as u32,
+            b: q as u32,
+            ..Record::ZERO
+        },
+    );
 }
 
 // Pushes a layout requirement, which says AnyObject. An invalid letter is refused.
-fn layout(ws: &mut [u32], n: usize, st: State, p: usize, reads: bool) -> Step
-    requires { Constraining ws.old n st p }
-    ensures { Constrains (Constraint.Layout reads) ws.old ws.new n st p result }
+fn layout(trees: &mut Trees, p: usize, reads: bool) -> Result<(), Refusal>
+    requires { Constraining trees.old.ws.now trees.old.n trees.old.state p }
+    ensures stays { Stays trees.old trees.new }
+    ensures constrains { Constrains (Constraint.Layout reads) trees.old.ws.now trees.new.ws.now trees.old.n trees.old.state p (step_of result trees.new.state) }
 {
-    if reads {
-        let made = tree_nodes::standard_nominal(ws, n, st, NominalKind::Protocol, 3);
-        return Step::Done(push_pair(ws, n, made.next, 13, p, made.place));
+    if !reads {
+        return Err(Refusal::Spelling);
     }
-    Step::Refused(Refusal::Spelling)
+    let q = standard_nominal(trees, NominalKind::Protocol, ANY_OBJECT);
+    push_pair(trees, Kind::ConformanceRequirement, p, q);
+    Ok(())
 }
 
-// Applies the constraint to the subject at place p.
-fn constrain(ws: &mut [u32], n: usize, st: State, p: usize, constraint: Constraint) -> Step
-    requires { Constraining ws.old n st p }
-    ensures { Constrains constraint ws.old ws.new n st p result }
+// Applies the constraint to the subject at a place.
+fn constrain(trees: &mut Trees, p: usize, constraint: Constraint) -> Result<(), Refusal>
+    requires { Constraining trees.old.ws.now trees.old.n trees.old.state p }
+    ensures stays { Stays trees.old trees.new }
+    ensures constrains { Constrains constraint trees.old.ws.now trees.new.ws.now trees.old.n trees.old.state p (step_of result trees.new.state) }
 {
     match constraint {
-        Constraint::Conforms => match tree_nodes::protocol(ws, n, st) {
-            Popped::Place(q, u) => Step::Done(push_pair(ws, n, u, 13, p, q)),
-            Popped::Nothing => Step::Refused(Refusal::Stack),
-        },
-        Constraint::Superclass => match tree_nodes::pop_if(ws, n, st, Want::Type) {
-            Popped::Place(q, u) => Step::Done(push_pair(ws, n, u, 13, p, q)),
-            Popped::Nothing => Step::Refused(Refusal::Stack),
-        },
-        Constraint::SameType => match tree_nodes::pop_if(ws, n, st, Want::Type) {
-            Popped::Place(q, u) => Step::Done(push_pair(ws, n, u, 14, p, q)),
-            Popped::Nothing => Step::Refused(Refusal::Stack),
-        },
-        Constraint::Layout(reads) => layout(ws, n, st, p, reads),
+        Constraint::Conforms => {
+            let q = protocol(trees)?;
+            push_pair(trees, Kind::ConformanceRequirement, p, q);
+            Ok(())
+        }
+        Constraint::Superclass => {
+            let q = pop_if(trees, Want::Type)?;
+            push_pair(trees, Kind::ConformanceRequirement, p, q);
+            Ok(())
+        }
+        Constraint::SameType => {
+            let q = pop_if(trees, Want::Type)?;
+            push_pair(trees, Kind::SameTypeRequirement, p, q);
+            Ok(())
+        }
+        Constraint::Layout(reads) => layout(trees, p, reads),
     }
 }
 
 // `R`: a requirement of a generic signature.
-pub fn requirement(ws: &mut [u32], n: usize, st: State, on: Subject, constraint: Constraint) -> Step
-    requires { Ready ws.old n st full_spare }
-    ensures { Operates (required on constraint) ws.old ws.new n st result }
+pub fn requirement(trees: &mut Trees, on: Subject, constraint: Constraint) -> Result<(), Refusal>
+    requires { Has trees.old full_spare }
+    ensures stays { Stays trees.old trees.new }
+    ensures operates { Operates (required on constraint) trees.old trees.new result }
 {
-    match subject(ws, n, st, on) {
-        Popped::Place(p, u) => constrain(ws, n, u, p, constraint),
-        Popped::Nothing => Step::Refused(Refusal::Stack),
-    }
+    let p = subject(trees, on)?;
+    constrain(trees, p, constraint)
 }

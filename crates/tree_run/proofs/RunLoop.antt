@@ -25,17 +25,15 @@ use Rattle.machine.specs.Beyond.{Beyond, beyond_itself, beyond_both}
 use Rattle.tree_nodes.specs.Gives.{nothing_spare}
 use Rattle.tree_records.specs.NamesOf.{Noted, noted, names_of, naming}
 use Rattle.text_words.specs.Table.{table, Fitting}
-use Rattle.text_words.specs.declared.Words.{Words}
+use Rattle.text_words.specs.Table.{Words}
 use Rattle.text_words.specs.Waits.{noted_behind, Waits, More}
-use Rattle.text_words.specs.declared.waiting.Waiting.{Waiting}
-use Rattle.text_words.proofs.waiting.NotedLater.{noted_begins, noted_nothing}
+use Rattle.text_words.specs.Waits.{Waiting}
+use Rattle.text_words.proofs.Later.{noted_begins, noted_nothing}
 use Rattle.tree_run.specs.Turns.{Reads, Comes, Fails, Turning, NameCame, NameFails, NameTurning, PlainCame, PlainTurning}
 use Rattle.tree_run.proofs.turns.MoreWords.{holds_more}
 use Rattle.tree_run.specs.Runs.{read, Ran, Stopped}
 use Rattle.tree_run.specs.declared.turns.Turned.{Turned}
-use Rattle.tree_run.specs.declared.turns.Turned.TheVariants as Turned
 use Rattle.tree_run.specs.declared.turns.PlainTurned.{PlainTurned}
-use Rattle.tree_run.specs.declared.turns.PlainTurned.TheVariants as PlainTurned
 
 -- the words of a table, and with those of all waiting literals
 abbrev pub all_of : Text → Words → Waiting → Noted

@@ -14,9 +14,8 @@ use Rattle.tree_records.specs.declared.State.{State}
 use Rattle.machine.specs.Beyond.{Beyond}
 use Rattle.tree_nodes.specs.Gives.{nothing_spare}
 use Rattle.text_words.specs.Table.{table, Fitting}
-use Rattle.text_words.specs.declared.Words.{Words}
+use Rattle.text_words.specs.Table.{Words}
 use Rattle.tree_run.specs.declared.Ended.{Ended}
-use Rattle.tree_run.specs.declared.Ended.TheVariants as Ended
 
 -- k turns of the reading over the body
 abbrev pub read : (N k : ℕ) → Text → End Demangler

@@ -10,7 +10,7 @@ use Rattle.definition.specs.Words as W
 use Rattle.definition.specs.Operators as Op
 use Rattle.definition.specs.Perform as R
 use Rattle.definition.specs.Perform.{Demangler, Run}
-use Rattle.definition.specs.Calls.{then_run, turn, turns}
+use Rattle.definition.specs.Calls.{then_run, turn}
 use Rattle.definition.specs.Enums.{number}
 use Rattle.definition.specs.declared.Refusal.{Refusal}
 use Rattle.text_cursor.specs.declared.Cursor.{Cursor}
@@ -20,18 +20,14 @@ use Rattle.tree_records.specs.Holds.{Names, Spare, Holds}
 use Rattle.tree_records.specs.declared.State.{State}
 use Rattle.machine.specs.Beyond.{Beyond}
 use Rattle.tree_nodes.specs.Gives.{nothing_spare, full_spare, Operates}
-use Rattle.tree_nodes.specs.declared.Step.TheVariants as Step
+use Rattle.tree_nodes.specs.Results as Step
 use Rattle.text_words.specs.Table.{part, table, Fitting}
-use Rattle.text_words.specs.declared.Words.{Words}
+use Rattle.text_words.specs.Table.{Words}
 use Rattle.tree_run.specs.declared.turns.Begun.{Begun}
-use Rattle.tree_run.specs.declared.turns.Begun.TheVariants as Begun
 use Rattle.tree_run.specs.declared.turns.NameTurned.{NameTurned}
 use Rattle.tree_run.specs.declared.turns.PlainTurned.{PlainTurned}
-use Rattle.tree_run.specs.declared.turns.PlainTurned.TheVariants as PlainTurned
 use Rattle.tree_run.specs.declared.turns.Turned.{Turned}
-use Rattle.tree_run.specs.declared.turns.Turned.TheVariants as Turned
 use Rattle.tree_run.specs.declared.turns.Letter.{Letter}
-use Rattle.tree_run.specs.declared.turns.Letter.TheVariants as Letter
 
 -- w holds some machine, with the names of the body
 pub record Reads (text : Text) (w : List ℕ) (N : ℕ) (st : State) (sp : Spare) : Type 0 where

@@ -59,10 +59,10 @@ pub fn run(body: &[u8], k: usize, ws: &mut [u32], n: usize) -> Reached
             };
         }
         let b = body[at];
-        let held = waiting.count;
+        let held = waiting.len();
         if text_cursor::is_digit(b) {
             if (b == b'0') | (held == 16) {
-                words = note_waiting(body, waiting, words);
+                note_waiting(body, &waiting, &mut words);
                 waiting = Waiting::new();
                 let named = name_turn(body, c, ws, n, st, words);
                 let got = named.turn;
@@ -83,7 +83,7 @@ pub fn run(body: &[u8], k: usize, ws: &mut [u32], n: usize) -> Reached
             } else {
                 match plain_turn(body, c, ws, n, st) {
                     PlainTurned::To(u, from, next) => {
-                        waiting = wait(waiting, from, next.at);
+                        wait(&mut waiting, from, next.at);
                         st = u;
                         c = next;
                         i += 1;

@@ -2,59 +2,61 @@
 ghost use Rattle.definition.specs.Enums as Enums;
 ghost use Rattle.definition.specs.Perform as R;
 ghost use Rattle.definition.specs.declared.Operator.TheVariants as Operators;
-ghost use Rattle.tree_records.specs.Holds.{Ready};
-ghost use Rattle.tree_nodes.specs.Gives.{full_spare, Operates};
+ghost use Rattle.tree_records.specs.Trees.{Stays, Has};
+ghost use Rattle.tree_nodes.specs.Gives.{full_spare};
+ghost use Rattle.tree_nodes.specs.Trees.{Operates};
 
-use definition::Operator;
-use tree_nodes::{Built, Step};
-use tree_records::State;
+use definition::{Operator, Refusal};
+use tree_records::Trees;
 
 // Pushes a function type.
-fn function_type(ws: &mut [u32], n: usize, st: State) -> Step
-    requires { Ready ws.old n st full_spare }
-    ensures { Operates (λ fixed. R.perform n (Enums.operator fixed Operators.FunctionType)) ws.old ws.new n st result }
+fn function_type(trees: &mut Trees) -> Result<(), Refusal>
+    requires { Has trees.old full_spare }
+    ensures stays { Stays trees.old trees.new }
+    ensures operates { Operates (λ fixed. R.perform trees.old.n (Enums.operator fixed Operators.FunctionType)) trees.old trees.new result }
 {
-    match tree_nodes::function_type(ws, n, st) {
-        Built::Place(p, u) => Step::Done(tree_records::push(ws, n, u, p)),
-        Built::Refused(r) => Step::Refused(r),
-    }
+    let place = tree_nodes::build::function_type(trees)?;
+    trees.push(place);
+    Ok(())
 }
 
 // Performs one operator other than `A`.
-pub fn perform(ws: &mut [u32], n: usize, st: State, op: Operator) -> Step
-    requires { Ready ws.old n st full_spare }
-    ensures { Operates (λ fixed. R.perform n (Enums.operator fixed op)) ws.old ws.new n st result }
+pub fn perform(trees: &mut Trees, op: Operator) -> Result<(), Refusal>
+    requires { Has trees.old full_spare }
+    ensures stays { Stays trees.old trees.new }
+    ensures operates { Operates (λ fixed. R.perform trees.old.n (Enums.operator fixed op)) trees.old trees.new result }
 {
     match op {
-        Operator::Nominal(kind) => tree_types::nominal(ws, n, st, kind),
-        Operator::Leaf(l) => tree_copies::push_leaf(ws, n, st, l),
-        Operator::Standard(repeat, l) => tree_copies::standard(ws, n, st, repeat, l),
-        Operator::Optional(repeat) => tree_copies::optional(ws, n, st, repeat),
-        Operator::Tuple => tree_types::tuple(ws, n, st),
-        Operator::FunctionType => function_type(ws, n, st),
-        Operator::ProtocolList => tree_types::protocol_list(ws, n, st),
-        Operator::BoundGeneric => tree_types::bound_generic(ws, n, st),
-        Operator::InOut => tree_wrappers::in_out(ws, n, st),
-        Operator::Metatype => tree_wrappers::metatype(ws, n, st),
-        Operator::Archetype(p) => tree_types::archetype(ws, n, st, p),
+        Operator::Nominal(kind) => tree_types::nominal(trees, kind),
+        Operator::Leaf(l) => {
+            tree_copies::push_leaf(trees, l);
+            Ok(())
+        }
+        Operator::Standard(repeat, l) => tree_copies::standard(trees, repeat, l),
+        Operator::Optional(repeat) => tree_copies::optional(trees, repeat),
+        Operator::Tuple => tree_types::tuple(trees),
+        Operator::FunctionType => function_type(trees),
+        Operator::ProtocolList => tree_types::protocol_list(trees),
+        Operator::BoundGeneric => tree_types::bound_generic(trees),
+        Operator::InOut => tree_wrappers::in_out(trees),
+        Operator::Metatype => tree_wrappers::metatype(trees),
+        Operator::Archetype(p) => tree_types::archetype(trees, p),
         Operator::Requirement(on, constraint) => {
-            tree_requirements::requirement(ws, n, st, on, constraint)
+            tree_requirements::requirement(trees, on, constraint)
         }
-        Operator::GenericSignature(params) => tree_types::generic_signature(ws, n, st, params),
-        Operator::PlainFunction => tree_entities::plain_function(ws, n, st),
-        Operator::Variable(accessor) => tree_entities::variable(ws, n, st, accessor),
-        Operator::Initializer(allocating) => tree_entities::initializer(ws, n, st, allocating),
-        Operator::Deinitializer(deallocating) => {
-            tree_entities::deinitializer(ws, n, st, deallocating)
-        }
-        Operator::VariableInitializer => tree_wrappers::variable_initializer(ws, n, st),
-        Operator::Static => tree_wrappers::static_member(ws, n, st),
-        Operator::Record(about, name) => tree_witnesses::record_of(ws, n, st, about, name),
-        Operator::SuspendResume(i) => tree_witnesses::suspend_resume(ws, n, st, i),
-        Operator::LazyWitness(name) => tree_witnesses::lazy_witness(ws, n, st, name),
-        Operator::ValueWitness(name) => tree_entities::value_witness(ws, n, st, name),
-        Operator::ProtocolWitness => tree_witnesses::protocol_witness(ws, n, st),
-        Operator::AssociatedType => tree_witnesses::associated_type(ws, n, st),
-        Operator::AssociatedConformance => tree_witnesses::associated_conformance(ws, n, st),
+        Operator::GenericSignature(params) => tree_types::generic_signature(trees, params),
+        Operator::PlainFunction => tree_entities::plain_function(trees),
+        Operator::Variable(accessor) => tree_entities::variable(trees, accessor),
+        Operator::Initializer(allocating) => tree_entities::initializer(trees, allocating),
+        Operator::Deinitializer(deallocating) => tree_entities::deinitializer(trees, deallocating),
+        Operator::VariableInitializer => tree_wrappers::variable_initializer(trees),
+        Operator::Static => tree_wrappers::static_member(trees),
+        Operator::Record(about, name) => tree_witnesses::record_of(trees, about, name),
+        Operator::SuspendResume(i) => tree_witnesses::suspend_resume(trees, i),
+        Operator::LazyWitness(name) => tree_witnesses::lazy_witness(trees, name),
+        Operator::ValueWitness(name) => tree_entities::value_witness(trees, name),
+        Operator::ProtocolWitness => tree_witnesses::protocol_witness(trees),
+        Operator::AssociatedType => tree_witnesses::associated_type(trees),
+        Operator::AssociatedConformance => tree_witnesses::associated_conformance(trees),
     }
 }

@@ -13,14 +13,11 @@ ghost use Rattle.operator_substitutions.specs.Chain.{chain, outcome};
 ghost use Rattle.tree_run.specs.Turns.{Reads, performs, Turning, Letters, Performed, Begins, NameTurn, PlainTurning};
 
 use definition::{Operator, Refusal};
-use machine::budget::Spent;
-use operator_operands::OperatorRead;
-use operator_substitutions::SubstitutionRead;
-use text_cursor::Cursor;
-use text_identifiers::{Extent, NameRead};
+use machine::kinds::Kind;
+use text_cursor::{Cursor, Reader};
 use text_words::Words;
-use tree_nodes::Step;
-use tree_records::{Fields, State};
+use tree_nodes::leave::push_kept;
+use tree_records::{Record, State, Trees};
 
 // The state after an operator and the cursor after it, or its refusal.
 #[derive(Clone, Copy)]
@@ -64,21 +61,24 @@ fn item(text: &[u8], c: Cursor, ws: &mut [u32], n: usize, st: State) -> Letter
     requires { Reads text.now ws.old n st nothing_spare }
     ensures { Letters n text.now c.at ws.old ws.new st result }
 {
-    match operator_substitutions::substitution(text, c) {
-        SubstitutionRead::Copies(times, index, last, next) => {
-            match tree_copies::recall(ws, n, st, times, index) {
-                Step::Done(u) => {
-                    if last {
-                        return Letter::Last(u, next);
+    let mut reader = Reader { text, at: c.at };
+    match operator_substitutions::substitution(&mut reader) {
+        Ok(copies) => {
+            let mut trees = Trees { ws, n, state: st };
+            match tree_copies::recall(&mut trees, copies.times, copies.index) {
+                Ok(()) => {
+                    let u = trees.state;
+                    if copies.last {
+                        return Letter::Last(u, Cursor { at: reader.at });
                     }
-                    return Letter::More(u, next);
+                    return Letter::More(u, Cursor { at: reader.at });
                 }
-                Step::Refused(r) => {
+                Err(r) => {
                     return Letter::Refused(r);
                 }
             }
         }
-        SubstitutionRead::Broken(f) => Letter::Refused(f),
+        Err(f) => Letter::Refused(f),
     }
 }
 
@@ -110,9 +110,10 @@ fn performed(ws: &mut [u32], n: usize, st: State, op: Operator, next: Cursor) ->
     requires { Ready ws.old n st full_spare }
     ensures { Performed (λ fixed. R.perform n (Enums.operator fixed op)) ws.old ws.new n st next result }
 {
-    match crate::perform::perform(ws, n, st, op) {
-        Step::Done(u) => Turned::To(u, next),
-        Step::Refused(r) => Turned::Refused(r),
+    let mut trees = Trees { ws, n, state: st };
+    match crate::perform::perform(&mut trees, op) {
+        Ok(()) => Turned::To(trees.state, next),
+        Err(r) => Turned::Refused(r),
     }
 }
 
@@ -121,10 +122,11 @@ fn operated(text: &[u8], c: Cursor, ws: &mut [u32], n: usize, st: State) -> Turn
     requires { Reads text.now ws.old n st full_spare × (c.at < length text.now) × (digit (get_or text.now c.at 0) ≡ false) }
     ensures { Turning (Reading.one n (drop c.at text.now)) full_spare text.now ws.old ws.new n st result }
 {
-    match operator_letters::operator(text, c) {
-        OperatorRead::Read(op, next) => performed(ws, n, st, op, next),
-        OperatorRead::Substitutions(next) => substitutions(text, next, ws, n, st),
-        OperatorRead::Refused(f) => Turned::Refused(f),
+    let mut reader = Reader { text, at: c.at };
+    match operator_letters::operator(&mut reader) {
+        Ok(Some(op)) => performed(ws, n, st, op, Cursor { at: reader.at }),
+        Ok(None) => substitutions(text, Cursor { at: reader.at }, ws, n, st),
+        Err(f) => Turned::Refused(f),
     }
 }
 
@@ -134,16 +136,16 @@ fn begin(n: usize, st: State) -> Begun
 {
     let budget = st.budget;
     match budget.step() {
-        Spent::Left(stepped) => match stepped.charge(n, 1) {
-            Spent::Left(charged) => Begun::Next(State {
+        Ok(stepped) => match stepped.charge(n, 1) {
+            Ok(charged) => Begun::Next(State {
                 budget: charged,
                 top: st.top,
                 depth: st.depth,
                 seen: st.seen,
             }),
-            Spent::Refused(r) => Begun::Refused(r),
+            Err(r) => Begun::Refused(r),
         },
-        Spent::Refused(r) => Begun::Refused(r),
+        Err(r) => Begun::Refused(r),
     }
 }
 
@@ -163,14 +165,17 @@ fn name(ws: &mut [u32], n: usize, st: State, at: usize) -> State
     requires { Inside ws.old n st 5 1 1 × (at < 65536) }
     ensures { Kept ws.old ws.new n st result (0 ∷ 1 ∷ 0 ∷ at ∷ 0 ∷ 0 ∷ 0 ∷ 0 ∷ []) }
 {
-    let rest = Fields {
-        a: at as u32,
-        b: 0,
-        c: 0,
-        d: 0,
-        e: 0,
-    };
-    tree_nodes::push_kept(ws, n, st, 0, 1, 0, rest)
+    let mut trees = Trees { ws, n, state: st };
+    push_kept(
+        &mut trees,
+        Record {
+            kind: Kind::Identifier,
+            size: 1,
+            a: at as u32,
+            ..Record::ZERO
+        },
+    );
+    trees.state
 }
 
 // One turn of `run` where the byte at the cursor is a digit: a name.
@@ -187,19 +192,17 @@ pub fn name_turn(
 {
     match begin(n, st) {
         Begun::Next(u) => {
-            let read = text_identifiers::identifier(text, c, words);
-            let got = read.read;
-            let after = read.words;
-            let at = c.at;
-            match got {
-                NameRead::Read(next) => {
-                    let v = name(ws, n, u, at);
+            let mut reader = Reader { text, at: c.at };
+            let mut after = words;
+            match text_identifiers::identifier(&mut reader, &mut after) {
+                Ok(()) => {
+                    let v = name(ws, n, u, c.at);
                     NameTurned {
-                        turn: Turned::To(v, next),
+                        turn: Turned::To(v, Cursor { at: reader.at }),
                         words: after,
                     }
                 }
-                NameRead::Refused(f) => NameTurned {
+                Err(f) => NameTurned {
                     turn: Turned::Refused(f),
                     words: after,
                 },
@@ -220,13 +223,13 @@ pub fn plain_turn(text: &[u8], c: Cursor, ws: &mut [u32], n: usize, st: State) -
 {
     match begin(n, st) {
         Begun::Next(u) => {
-            let at = c.at;
-            match text_identifiers::literal(text, c, false) {
-                Extent::Read(from, to) => {
-                    let v = name(ws, n, u, at);
-                    PlainTurned::To(v, from, Cursor { at: to })
+            let mut reader = Reader { text, at: c.at };
+            match text_identifiers::literal(&mut reader, false) {
+                Ok(bytes) => {
+                    let v = name(ws, n, u, c.at);
+                    PlainTurned::To(v, bytes.from, Cursor { at: bytes.to })
                 }
-                Extent::Refused(f) => PlainTurned::Refused(f),
+                Err(f) => PlainTurned::Refused(f),
             }
         }
         Begun::Refused(r) => PlainTurned::Refused(r),

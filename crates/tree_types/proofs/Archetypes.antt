@@ -4,19 +4,16 @@ use mathlib.Core.List.{List, [], ◌∷◌, ◌++◌}
 use Prim.Native.Nat.{ℕ, ◌+◌, ◌-◌, ◌≤◌}
 use Prim.Native.String.{String}
 use native.Mathlib.Omega.{arith}
-use Rattle.definition.specs.Base.{refused}
-use Rattle.definition.specs.Enums as E
 use Rattle.definition.specs.Text.{Param}
 use Rattle.definition.specs.Node.{Node, DependentMember, kind, size, count, view}
 use Rattle.definition.specs.Machine as M
 use Rattle.definition.specs.Machine.{machine}
 use Rattle.definition.specs.Perform as R
 use Rattle.definition.specs.Perform.{Demangler}
-use Rattle.definition.specs.declared.Refusal.TheVariants as Refusal
-use Rattle.tree_records.specs.Holds.{Names, Spare, Holds, Ready, for_record, for_push, for_keeping}
+use Rattle.tree_records.specs.Holds.{Spare, Ready, for_record, for_push, for_keeping}
 use Rattle.tree_records.specs.declared.State.{State}
-use Rattle.tree_nodes.specs.declared.Placed.{Placed}
-use Rattle.tree_nodes.specs.declared.Step.TheVariants as Step
+use Rattle.tree_nodes.specs.Results.{Placed}
+use Rattle.tree_nodes.specs.Results as Step
 use Rattle.tree_nodes.specs.Gives.{spare, nothing_spare, full_spare, taken, GivenName, GivesName, Operates, Kept, Makes}
 use Rattle.tree_nodes.proofs.Taking.{less_spare}
 
@@ -49,7 +46,3 @@ archetype_done {w} {w₁} {w₂} {N} {st} {u} {s} {r} q name a ea g b l = record
   past = λ i h. l.keeps.past i h ∙ b.keeps.past i h;
   long = l.keeps.long ∙ b.keeps.long;
 }
-
-pub archetype_refused : {w : List ℕ} {N : ℕ} {st : State} (q : Param) → ((nm : Names) (sp : Spare) (m : Demangler) → Holds nm w N st sp m → R.assoc_type_name m ≡ refused 10) → Operates (λ _. R.archetype q) w w N st (Step.Refused Refusal.Stack)
-unfolding R.archetype E.number
-archetype_refused q a = record { runs = λ nm m i h. rw (a nm full_spare m h) refl; past = λ i l. refl; long = refl }

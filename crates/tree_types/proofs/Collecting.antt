@@ -1,5 +1,5 @@
 -- A whole list: the definition's loop over the whole is its loop over the rest from here.
-use mathlib.Core.Path.{◌≡◌, refl, ap, ◌∙◌, subst}
+use mathlib.Core.Path.{◌≡◌, refl, ap, ◌∙◌}
 use mathlib.Core.List.{List}
 use Prim.Native.Nat.{ℕ, suc, ◌-◌, ◌≤◌, ◌<◌}
 use native.Mathlib.Omega.{arith}
@@ -13,10 +13,8 @@ use Rattle.tree_nodes.specs.Gives.{nothing_spare}
 use Rattle.tree_nodes.proofs.Leaving.{keeps_then}
 use Rattle.tree_nodes.proofs.Taking.{less_spare, keeps_itself}
 use Rattle.tree_types.specs.Cells.{grown, Listed, Gathering}
-use Rattle.tree_types.specs.TypeLists.{Loop, Went, Turns, Rounds, Collected}
+use Rattle.tree_types.specs.TypeLists.{Loop, Went, Turns, Collected}
 use Rattle.tree_types.specs.declared.cells.Chain.{Chain}
-use Rattle.tree_types.specs.declared.Round.{Round}
-use Rattle.tree_types.specs.declared.Round.TheVariants as Round
 use Rattle.tree_types.proofs.cells.Cells.{listed_nil}
 use Rattle.tree_types.proofs.cells.Gatherings.{gathering_none}
 
@@ -84,8 +82,8 @@ module _ (loop : Loop) {w₀ w w' : List ℕ} {N : ℕ} {st₀ st : State} {l : 
     gives = λ nm sp m f q h. (round_then t nm sp m f q h).2;
   }
 
-  pub going_refused : ((nm : Names) (sp : Spare) (m : Demangler) (ns : Nodes) (f : ℕ) → Holds nm w N st sp m → loop (suc f) ns m ≡ refused 10) × Beyond 64 N w w' →
-      ((nm : Names) (sp : Spare) (m : Demangler) (f : ℕ) → st₀.depth < f → Holds nm w₀ N st₀ sp m → loop f nil m ≡ refused 10) × Beyond 64 N w₀ w'
+  pub going_refused : {k : ℕ} → ((nm : Names) (sp : Spare) (m : Demangler) (ns : Nodes) (f : ℕ) → Holds nm w N st sp m → loop (suc f) ns m ≡ refused k) × Beyond 64 N w w' →
+      ((nm : Names) (sp : Spare) (m : Demangler) (f : ℕ) → st₀.depth < f → Holds nm w₀ N st₀ sp m → loop f nil m ≡ refused k) × Beyond 64 N w₀ w'
   going_refused t = (
     λ nm sp m f q h.
         let a : Gone loop nm w N st l sp f m = g.gone nm sp m f q h in
@@ -93,15 +91,3 @@ module _ (loop : Loop) {w₀ w w' : List ℕ} {N : ℕ} {st₀ st : State} {l : 
         a.is ∙ ap (λ (i : ℕ). loop i a.list a.machine) e ∙ t.0 nm (grown a.list sp) a.machine a.list (a.left - 1) a.holds,
     record { past = λ i k. t.1.past i k ∙ g.keeps.past i k; long = t.1.long ∙ g.keeps.long },
   )
-
--- the result of an arm for a round
-module _ (loop : Loop) {w w' : List ℕ} {N : ℕ} {st : State} {l : Chain} {r : Round} where
-  pub round_more : (l' : Chain) (u : State) → r ≡ Round.More l' u → Rounds loop w w' N st l r → Turns loop loop w w' N st l l' u × (u.depth < st.depth)
-  round_more l' u e h = subst (λ (x : Round). Rounds loop w w' N st l x) e h
-
-  pub round_last : (l' : Chain) (u : State) → r ≡ Round.Last l' u → Rounds loop w w' N st l r → Turns loop (λ f. ret) w w' N st l l' u
-  round_last l' u e h = subst (λ (x : Round). Rounds loop w w' N st l x) e h
-
-pub round_refused : (loop : Loop) {w w' : List ℕ} {N : ℕ} {st : State} (l : Chain) {r : Round} → r ≡ Round.Refused → Rounds loop w w' N st l r →
-    ((nm : Names) (sp : Spare) (m : Demangler) (ns : Nodes) (f : ℕ) → Holds nm w N st sp m → loop (suc f) ns m ≡ refused 10) × Beyond 64 N w w'
-round_refused loop {w} {w'} {N} {st} l e h = subst (λ (x : Round). Rounds loop w w' N st l x) e h

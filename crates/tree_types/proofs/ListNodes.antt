@@ -1,34 +1,32 @@
 -- Nodes over lists: tuples, lists of protocols, generic types with their arguments, generic
 -- signatures.
-use mathlib.Core.Path.{◌≡◌, refl, sym, ap, ◌∙◌, subst}
+use mathlib.Core.Path.{◌≡◌, refl, sym, ap, ◌∙◌}
 use mathlib.Core.Bool.{true, false}
 use mathlib.Core.List.{List, [], ◌∷◌, ◌++◌}
 use Prim.Native.Nat.{ℕ, suc, ◌+◌, ◌<◌}
 use native.Mathlib.Omega.{arith}
 use lib.ListN.{length}
 use Rattle.definition.specs.Base.{refused}
-use Rattle.definition.specs.Enums as E
+use Rattle.definition.specs.Enums.{number}
 use Rattle.definition.specs.Kind as K
 use Rattle.definition.specs.Node.{Node, Nodes, nil, Tuple, ProtocolList, BoundGeneric, GenericSignature, kind, size, count, sizes, many, view}
 use Rattle.definition.specs.Machine as M
 use Rattle.definition.specs.Machine.{machine, restack}
 use Rattle.definition.specs.Perform as R
 use Rattle.definition.specs.Perform.{Demangler}
-use Rattle.definition.specs.declared.Refusal.TheVariants as Refusal
+use Rattle.definition.specs.declared.Refusal.{Refusal}
 use Rattle.tree_records.specs.Lies.{at, Cells}
 use Rattle.tree_records.specs.Holds.{Names, Named, Stack, stack_base, Spare, Holds, Ready, for_record, for_push, for_keeping}
 use Rattle.tree_records.specs.declared.State.{State}
-use Rattle.tree_nodes.specs.declared.Marked.{Marked}
-use Rattle.tree_nodes.specs.declared.Step.TheVariants as Step
+use Rattle.tree_nodes.specs.Results.{Marked}
+use Rattle.tree_nodes.specs.Results as Step
 use Rattle.machine.specs.Beyond.{Beyond}
 use Rattle.tree_nodes.specs.Gives.{nothing_spare, full_spare, taken, low_half, high_half, Gives, Marks, Operates, Left, Kept}
 use Rattle.tree_nodes.proofs.Making.{halves}
 use Rattle.tree_nodes.proofs.Taking.{less_spare, keeps_itself}
 use Rattle.tree_types.specs.Cells.{grown, Listed, Gathering}
-use Rattle.tree_types.specs.TypeLists.{Loop, Collected, Collects, ListNode, delimited, applied}
+use Rattle.tree_types.specs.TypeLists.{Loop, Collected, ListNode, delimited, applied}
 use Rattle.tree_types.specs.declared.cells.Chain.{Chain}
-use Rattle.tree_types.specs.declared.Listing.{Listing}
-use Rattle.tree_types.specs.declared.Listing.TheVariants as Listing
 use Rattle.tree_types.proofs.cells.Cells.{cells_move, listed_moves, listed_nil}
 
 -- the number of places on the stack is the number of trees on it
@@ -48,14 +46,6 @@ pub gathered : {loop : Loop} {w w' : List ℕ} {N : ℕ} {st u : State} {sp : Sp
 gathered {loop} {w} {w'} {N} {st} {u} {sp} c r =
     let t = c.gives r.names sp r.machine (suc st.depth) (omega arith) r.holds in
     record { names = r.names; machine = t.machine; list = t.list; holds = t.holds; listed = t.listed }
-
--- the result of an arm for a whole list
-pub collected : (loop : Loop) {w w' : List ℕ} {N : ℕ} {st : State} {r : Listing} (l : Chain) (u : State) → r ≡ Listing.Cells l u → Collects loop w w' N st r → Collected loop w w' N st l u
-collected loop {w} {w'} {N} {st} l u e h = subst (λ (x : Listing). Collects loop w w' N st x) e h
-
-pub not_collected : (loop : Loop) {w w' : List ℕ} {N : ℕ} {st : State} {r : Listing} → r ≡ Listing.Nothing → Collects loop w w' N st r →
-    ((nm : Names) (sp : Spare) (m : Demangler) (f : ℕ) → st.depth < f → Holds nm w N st sp m → loop f nil m ≡ refused 10) × Beyond 64 N w w'
-not_collected loop {w} {w'} {N} {st} e h = subst (λ (x : Listing). Collects loop w w' N st x) e h
 
 -- TUPLES AND LISTS OF PROTOCOLS
 module _ {k : ℕ} {c : Nodes → Node} (o : ListNode k c) where
@@ -103,10 +93,10 @@ module _ {k : ℕ} {c : Nodes → Node} (o : ListNode k c) where
     long = d.keeps.long ∙ b.keeps.long;
   }
 
-  pub list_refused : {w w₁ : List ℕ} {N : ℕ} {st : State} {r : Marked} (loop : Loop) → r.taken ≡ false → Marks (R.took K.empty_list) w N st r → ((nm : Names) (sp : Spare) (m : Demangler) (f : ℕ) → r.next.depth < f → Holds nm w N r.next sp m → loop f nil m ≡ refused 10) × Beyond 64 N w w₁ →
-      Operates (delimited loop c) w w₁ N st (Step.Refused Refusal.Stack)
-  unfolding M.rounds E.number
-  list_refused {w} {w₁} {N} {st} {r} loop e a b = record {
+  pub list_refused : {r : Refusal} {w w₁ : List ℕ} {N : ℕ} {st : State} {b₀ : Marked} (loop : Loop) → b₀.taken ≡ false → Marks (R.took K.empty_list) w N st b₀ → ((nm : Names) (sp : Spare) (m : Demangler) (f : ℕ) → b₀.next.depth < f → Holds nm w N b₀.next sp m → loop f nil m ≡ refused (number r)) × Beyond 64 N w w₁ →
+      Operates (delimited loop c) w w₁ N st (Step.Refused r)
+  unfolding M.rounds
+  list_refused {r} {w} {w₁} {N} {st} {b₀} loop e a b = record {
     runs = λ nm m i h.
         let t = a.gives nm full_spare m h in
         rw (t.1, e, b.0 nm full_spare t.0 (suc (length t.0.stack)) (omega (arith, stack_depth t.2)) t.2) refl;
@@ -152,8 +142,8 @@ applied_done {w} {w₁} {w₂} {N} {st} {u} {v} {s} {l} {p} a z ea ez c g d = re
   long = d.keeps.long ∙ c.keeps.long;
 }
 
-pub applied_baseless : {w w₁ : List ℕ} {N : ℕ} {st u : State} {l : Chain} → Collected R.arguments w w₁ N st l u → ((nm : Names) (sp : Spare) (m : Demangler) → Holds nm w₁ N u sp m → R.pop_if K.is_type m ≡ refused 10) → Operates applied w w₁ N st (Step.Refused Refusal.Stack)
-unfolding M.rounds E.number
+pub applied_baseless : {r : Refusal} {w w₁ : List ℕ} {N : ℕ} {st u : State} {l : Chain} → Collected R.arguments w w₁ N st l u → ((nm : Names) (sp : Spare) (m : Demangler) → Holds nm w₁ N u sp m → R.pop_if K.is_type m ≡ refused (number r)) → Operates applied w w₁ N st (Step.Refused r)
+unfolding M.rounds
 applied_baseless c g = record {
   runs = λ nm m i h.
       let n = c.gives nm full_spare m (suc (length m.stack)) (omega (arith, stack_depth h)) h in
@@ -162,8 +152,8 @@ applied_baseless c g = record {
   long = c.keeps.long;
 }
 
-pub applied_refused : {w w₁ : List ℕ} {N : ℕ} {st : State} → ((nm : Names) (sp : Spare) (m : Demangler) (f : ℕ) → st.depth < f → Holds nm w N st sp m → R.arguments f nil m ≡ refused 10) × Beyond 64 N w w₁ → Operates applied w w₁ N st (Step.Refused Refusal.Stack)
-unfolding M.rounds E.number
+pub applied_refused : {r : Refusal} {w w₁ : List ℕ} {N : ℕ} {st : State} → ((nm : Names) (sp : Spare) (m : Demangler) (f : ℕ) → st.depth < f → Holds nm w N st sp m → R.arguments f nil m ≡ refused (number r)) × Beyond 64 N w w₁ → Operates applied w w₁ N st (Step.Refused r)
+unfolding M.rounds
 applied_refused c = record {
   runs = λ nm m i h. rw (c.0 nm full_spare m (suc (length m.stack)) (omega (arith, stack_depth h)) h) refl;
   past = c.1.past;
@@ -194,9 +184,9 @@ signature_done {w} {w₁} {w₂} {N} {st} {u} {v} {l} params a b ea eb c d = rec
   long = d.keeps.long ∙ c.keeps.long;
 }
 
-pub signature_refused : {w w₁ : List ℕ} {N : ℕ} {st : State} (params : ℕ) → ((nm : Names) (sp : Spare) (m : Demangler) (f : ℕ) → st.depth < f → Holds nm w N st sp m → R.requirements f nil m ≡ refused 10) × Beyond 64 N w w₁ →
-    Operates (λ _. R.generic_signature params) w w₁ N st (Step.Refused Refusal.Stack)
-unfolding R.generic_signature M.rounds E.number
+pub signature_refused : {r : Refusal} {w w₁ : List ℕ} {N : ℕ} {st : State} (params : ℕ) → ((nm : Names) (sp : Spare) (m : Demangler) (f : ℕ) → st.depth < f → Holds nm w N st sp m → R.requirements f nil m ≡ refused (number r)) × Beyond 64 N w w₁ →
+    Operates (λ _. R.generic_signature params) w w₁ N st (Step.Refused r)
+unfolding R.generic_signature M.rounds
 signature_refused params c = record {
   runs = λ nm m i h. rw (c.0 nm full_spare m (suc (length m.stack)) (omega (arith, stack_depth h)) h) refl;
   past = c.1.past;

@@ -1,24 +1,18 @@
 -- A type declared in a context.
-use mathlib.Core.Path.{◌≡◌, refl, ◌∙◌, subst}
+use mathlib.Core.Path.{◌≡◌, refl, ◌∙◌}
 use mathlib.Core.List.{List, [], ◌∷◌, ◌++◌}
 use Prim.Native.Nat.{ℕ, ◌+◌}
 use native.Mathlib.Omega.{arith}
-use Rattle.definition.specs.Base.{Name, refused}
-use Rattle.definition.specs.Enums as E
 use Rattle.definition.specs.Node.{NominalKind, Node, Nominal, kind, size, count, view, nominal_kind}
 use Rattle.definition.specs.Machine as M
 use Rattle.definition.specs.Machine.{machine}
 use Rattle.definition.specs.Perform as R
 use Rattle.definition.specs.Perform.{Demangler, Run}
-use Rattle.definition.specs.declared.Refusal.TheVariants as Refusal
 use Rattle.tree_records.specs.Lies.{at}
-use Rattle.tree_records.specs.Holds.{Names, Spare, Holds, for_record, for_push, for_keeping}
+use Rattle.tree_records.specs.Holds.{for_record, for_push, for_keeping}
 use Rattle.tree_records.specs.declared.State.{State}
-use Rattle.tree_nodes.specs.declared.Step.TheVariants as Step
-use Rattle.tree_nodes.specs.declared.NameTaken.{NameTaken}
-use Rattle.tree_nodes.specs.declared.NameTaken.TheVariants as NameTaken
-use Rattle.machine.specs.Beyond.{Beyond}
-use Rattle.tree_nodes.specs.Gives.{nothing_spare, full_spare, taken, Given, Gives, GivenName, GivesName, TakesName, Operates, Kept}
+use Rattle.tree_nodes.specs.Results as Step
+use Rattle.tree_nodes.specs.Gives.{nothing_spare, full_spare, taken, Given, Gives, GivenName, GivesName, Operates, Kept}
 use Rattle.tree_nodes.proofs.Contexts.{context_kind}
 use Rattle.tree_nodes.proofs.Taking.{less_spare}
 
@@ -46,25 +40,3 @@ nominal_done {w} {w₁} {w₂} {N} {st} {u} {v} {s} k name p kn z q ek ez eq a b
   past = λ i h. l.keeps.past i h ∙ b.keeps.past i h;
   long = l.keeps.long ∙ b.keeps.long;
 }
-
--- no name, or no context below it
-pub nominal_nameless : {w : List ℕ} {N : ℕ} {st : State} (k : NominalKind) → ((nm : Names) (sp : Spare) (m : Demangler) → Holds nm w N st sp m → R.pop_name m ≡ refused 10) → Operates (λ _. R.nominal k) w w N st (Step.Refused Refusal.Stack)
-unfolding R.nominal E.number
-nominal_nameless k a = record { runs = λ nm m i h. rw (a nm full_spare m h) refl; past = λ i l. refl; long = refl }
-
-pub nominal_homeless : {w w₁ : List ℕ} {N : ℕ} {st u : State} (k : NominalKind) (name : ℕ) → GivesName R.pop_name w N st name u → ((nm : Names) (sp : Spare) (m : Demangler) → Holds nm w N u sp m → R.context m ≡ refused 10) × Beyond 64 N w w₁ → Operates (λ _. R.nominal k) w w₁ N st (Step.Refused Refusal.Stack)
-unfolding R.nominal E.number
-nominal_homeless {w} {w₁} {N} {st} {u} k name a b = record {
-  runs = λ nm m i h.
-      let t : GivenName R.pop_name nm w N name u full_spare m = a.gives nm full_spare m h in
-      rw (t.is, b.0 nm (taken 3 1 full_spare) t.machine t.holds) refl;
-  past = b.1.past;
-  long = b.1.long;
-}
-
--- the result of an arm that takes a name
-pub taken_name : (f : Run Name) {w : List ℕ} {N : ℕ} {st : State} {r : NameTaken} (k : ℕ) (u : State) → r ≡ NameTaken.Name k u → TakesName f w N st r → GivesName f w N st k u
-taken_name f {w} {N} {st} k u e h = subst (λ (x : NameTaken). TakesName f w N st x) e h
-
-pub nameless : (f : Run Name) {w : List ℕ} {N : ℕ} {st : State} {r : NameTaken} → r ≡ NameTaken.Nothing → TakesName f w N st r → (nm : Names) (sp : Spare) (m : Demangler) → Holds nm w N st sp m → f m ≡ refused 10
-nameless f {w} {N} {st} e h = subst (λ (x : NameTaken). TakesName f w N st x) e h

@@ -1,5 +1,4 @@
 -- One round of each list.
-use Rattle.std.specs.Prelude.{if◌then◌else◌}
 use mathlib.Core.Path.{◌≡◌, refl, subst}
 use mathlib.Core.Bool.{Bool, true, false}
 use mathlib.Core.List.{List}
@@ -17,19 +16,13 @@ use Rattle.tree_records.specs.Holds.{Names, Spare, Holds, Keeps}
 use Rattle.tree_records.specs.declared.State.{State}
 use Rattle.machine.specs.Beyond.{Beyond, beyond_itself}
 use Rattle.tree_nodes.specs.Gives.{taken, Gives, GivesIf, Marks}
-use Rattle.tree_nodes.specs.declared.Marked.{Marked}
+use Rattle.tree_nodes.specs.Results.{Marked}
 use Rattle.tree_nodes.proofs.Leaving.{keeps_then}
 use Rattle.tree_nodes.proofs.Taking.{less_spare, keeps_itself}
-use Rattle.tree_types.specs.Cells.{grown, Listed, Adds, Labels}
-use Rattle.tree_types.specs.TypeLists.{Loop, Went, Turns}
+use Rattle.tree_types.specs.Cells.{Added, LabelTaken, grown, Listed, Adds, Labels}
+use Rattle.tree_types.specs.TypeLists.{Loop, Went, Turns, next_of}
 use Rattle.tree_types.specs.declared.cells.Chain.{Chain}
-use Rattle.tree_types.specs.declared.cells.Added.{Added}
-use Rattle.tree_types.specs.declared.cells.LabelTaken.{LabelTaken}
 use Rattle.tree_types.proofs.cells.Cells.{listed_moves}
-
--- what follows a round: nothing, or the loop again
-abbrev pub next_of : Bool → Loop → Loop
-next_of last loop f ns = if last then ret ns else loop f ns
 
 -- a tree that was taken, and its cell
 module _ {w w' : List ℕ} {N : ℕ} {u : State} {l : Chain} {label p : ℕ} {r : Added} (a : Adds w w' N u l label p r) where
@@ -66,8 +59,8 @@ module _ {w w' : List ℕ} {N : ℕ} {st : State} {first variadic : Marked} {nam
   )
 
 module _ {w : List ℕ} {N : ℕ} {st : State} {first variadic : Marked} {named : LabelTaken} where
-  pub element_refused : Marks (R.took K.first_element_marker) w N st first → Marks (R.took K.variadic_marker) w N first.next variadic → Labels w N variadic.next named → ((nm : Names) (sp : Spare) (m : Demangler) → Holds nm w N named.next sp m → R.pop_if K.is_type m ≡ refused 10) →
-      ((nm : Names) (sp : Spare) (m : Demangler) (ns : Nodes) (f : ℕ) → Holds nm w N st sp m → R.elements (suc f) ns m ≡ refused 10) × Beyond 64 N w w
+  pub element_refused : {k : ℕ} → Marks (R.took K.first_element_marker) w N st first → Marks (R.took K.variadic_marker) w N first.next variadic → Labels w N variadic.next named → ((nm : Names) (sp : Spare) (m : Demangler) → Holds nm w N named.next sp m → R.pop_if K.is_type m ≡ refused k) →
+      ((nm : Names) (sp : Spare) (m : Demangler) (ns : Nodes) (f : ℕ) → Holds nm w N st sp m → R.elements (suc f) ns m ≡ refused k) × Beyond 64 N w w
   unfolding R.elements
   element_refused a b c d = (
     λ nm sp m ns f h.
@@ -99,8 +92,8 @@ module _ {w w₁ : List ℕ} {N : ℕ} {st : State} {first : Marked} where
         omega (arith, a.deep, d.deep, q.depth),
       )
 
-  pub member_refused : Marks (R.took K.first_element_marker) w N st first → ((nm : Names) (sp : Spare) (m : Demangler) → Holds nm w N first.next sp m → R.protocol m ≡ refused 10) × Beyond 64 N w w₁ →
-      ((nm : Names) (sp : Spare) (m : Demangler) (ns : Nodes) (f : ℕ) → Holds nm w N st sp m → R.members (suc f) ns m ≡ refused 10) × Beyond 64 N w w₁
+  pub member_refused : {k : ℕ} → Marks (R.took K.first_element_marker) w N st first → ((nm : Names) (sp : Spare) (m : Demangler) → Holds nm w N first.next sp m → R.protocol m ≡ refused k) × Beyond 64 N w w₁ →
+      ((nm : Names) (sp : Spare) (m : Demangler) (ns : Nodes) (f : ℕ) → Holds nm w N st sp m → R.members (suc f) ns m ≡ refused k) × Beyond 64 N w w₁
   unfolding R.members
   member_refused a d = (
     λ nm sp m ns f h.
@@ -181,8 +174,8 @@ module _ {w : List ℕ} {N : ℕ} {st : State} {opened : Marked} (none_there : M
     omega (arith, a.deep, d.deep),
   )
 
-  pub argument_refused : opened.taken ≡ false → ((nm : Names) (sp : Spare) (m : Demangler) → Holds nm w N opened.next sp m → R.pop_if (eqb K.first_element_marker) m ≡ refused 10) →
-      ((nm : Names) (sp : Spare) (m : Demangler) (ns : Nodes) (f : ℕ) → Holds nm w N st sp m → R.arguments (suc f) ns m ≡ refused 10) × Beyond 64 N w w
+  pub argument_refused : {k : ℕ} → opened.taken ≡ false → ((nm : Names) (sp : Spare) (m : Demangler) → Holds nm w N opened.next sp m → R.pop_if (eqb K.first_element_marker) m ≡ refused k) →
+      ((nm : Names) (sp : Spare) (m : Demangler) (ns : Nodes) (f : ℕ) → Holds nm w N st sp m → R.arguments (suc f) ns m ≡ refused k) × Beyond 64 N w w
   unfolding R.arguments
   argument_refused e d = (
     λ nm sp m ns f h.

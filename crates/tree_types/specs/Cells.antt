@@ -2,7 +2,7 @@
 use Rattle.std.specs.Prelude.{◌≡◌, List, ℕ, ◌+◌, ◌^◌, ◌≤◌, ◌<◌}
 use Rattle.std.proofs.Math.Option.{Option}
 use Rattle.definition.specs.Base.{Name, ok}
-use Rattle.definition.specs.Node.{Node, Nodes, cons, size, count, sizes, many}
+use Rattle.definition.specs.Node.{Node, Nodes, cons, size, sizes, many}
 use Rattle.definition.specs.Perform as R
 use Rattle.definition.specs.Perform.{Demangler}
 use Rattle.definition.specs.Kind as K
@@ -11,8 +11,16 @@ use Rattle.tree_records.specs.Holds.{Names, Named, Spare, Inside, Holds, Keeps}
 use Rattle.tree_records.specs.declared.State.{State}
 use Rattle.tree_nodes.specs.Gives.{spare, taken}
 use Rattle.tree_types.specs.declared.cells.Chain.{Chain}
-use Rattle.tree_types.specs.declared.cells.Added.{Added}
-use Rattle.tree_types.specs.declared.cells.LabelTaken.{LabelTaken}
+
+-- a list with one more cell, and the state with its record
+pub record Added : Type 0 where
+  pub list : Chain
+  pub next : State
+
+-- the number of a label that was on top, or `absent`, and the state without it
+pub record LabelTaken : Type 0 where
+  pub label : ℕ
+  pub next : State
 
 -- what there is to spare after the nodes of a list were taken and a cell was made for each
 abbrev pub grown : Nodes → Spare → Spare

@@ -1,6 +1,6 @@
 -- Lists that operators take from the stack: how they are stored in the workspace, and what the code
 -- that takes them says about the definition's loops.
-use Rattle.std.specs.Prelude.{◌≡◌, List, ℕ, suc, ◌+◌, ◌≤◌, ◌<◌, if◌then◌else◌}
+use Rattle.std.specs.Prelude.{◌≡◌, Bool, false, Result, Ok, Err, List, ℕ, suc, ◌+◌, ◌≤◌, ◌<◌, if◌then◌else◌}
 use Rattle.definition.specs.Base.{refused, ret, ◌>>=◌, ◌>>◌}
 use Rattle.definition.specs.Node.{Node, Nodes, nil, BoundGeneric, kind, size, count, sizes, many}
 use Rattle.definition.specs.Machine as M
@@ -13,12 +13,9 @@ use Rattle.tree_records.specs.declared.State.{State}
 use Rattle.machine.specs.Beyond.{Beyond}
 use Rattle.tree_nodes.specs.Gives.{Performed}
 use Rattle.tree_types.specs.declared.cells.Chain.{Chain}
-use Rattle.tree_types.specs.declared.Round.{Round}
-use Rattle.tree_types.specs.declared.Round.TheVariants as Round
-use Rattle.tree_types.specs.declared.Listing.{Listing}
-use Rattle.tree_types.specs.declared.Listing.TheVariants as Listing
+use Rattle.definition.specs.Enums.{number}
+use Rattle.definition.specs.declared.Refusal.{Refusal}
 use Rattle.tree_types.specs.declared.Lists.{Lists}
-use Rattle.tree_types.specs.declared.Lists.TheVariants as Lists
 use Rattle.tree_types.specs.Cells.{grown, Listed}
 
 -- a loop of the definition, given the number of rounds that it may have and the list so far
@@ -39,10 +36,13 @@ pub record Turns (loop next : Loop) (w w' : List ℕ) (N : ℕ) (st : State) (l 
   pub keeps : Keeps w w' N st.top
   pub gives : (nm : Names) (sp : Spare) (m : Demangler) (ns : Nodes) (f : ℕ) → Holds nm w N st (grown ns sp) m → Listed nm ns w st.top l → Went (loop (suc f) ns) (next f) nm w' N u l' sp m
 
-abbrev pub Rounds : Loop → (w w' : List ℕ) (N : ℕ) (st : State) (l : Chain) → Round → Type 0
-Rounds loop w w' N st l (Round.More l' u) = Turns loop loop w w' N st l l' u × (u.depth < st.depth)
-Rounds loop w w' N st l (Round.Last l' u) = Turns loop (λ f. ret) w w' N st l l' u
-Rounds loop w w' N st l Round.Refused = ((nm : Names) (sp : Spare) (m : Demangler) (ns : Nodes) (f : ℕ) → Holds nm w N st sp m → loop (suc f) ns m ≡ refused 10) × Beyond 64 N w w'
+-- what follows a round: nothing, or the loop again
+abbrev pub next_of : Bool → Loop → Loop
+next_of last loop f ns = if last then ret ns else loop f ns
+
+abbrev pub Rounds : Loop → (w w' : List ℕ) (N : ℕ) (st u : State) (l l' : Chain) → Result Bool Refusal → Type 0
+Rounds loop w w' N st u l l' (Ok last) = Turns loop (next_of last loop) w w' N st l l' u × (last ≡ false → u.depth < st.depth)
+Rounds loop w w' N st u l l' (Err r) = ((nm : Names) (sp : Spare) (m : Demangler) (ns : Nodes) (f : ℕ) → Holds nm w N st sp m → loop (suc f) ns m ≡ refused (number r)) × Beyond 64 N w w'
 
 -- the whole list: a loop that may have more rounds than there are nodes on the stack
 pub record Collected (loop : Loop) (w w' : List ℕ) (N : ℕ) (st : State) (l : Chain) (u : State) : Type 0 where
@@ -50,9 +50,9 @@ pub record Collected (loop : Loop) (w w' : List ℕ) (N : ℕ) (st : State) (l :
   pub keeps : Keeps w w' N st.top
   pub gives : (nm : Names) (sp : Spare) (m : Demangler) (f : ℕ) → st.depth < f → Holds nm w N st sp m → Went (loop f nil) ret nm w' N u l sp m
 
-abbrev pub Collects : Loop → (w w' : List ℕ) (N : ℕ) (st : State) → Listing → Type 0
-Collects loop w w' N st (Listing.Cells l u) = Collected loop w w' N st l u
-Collects loop w w' N st Listing.Nothing = ((nm : Names) (sp : Spare) (m : Demangler) (f : ℕ) → st.depth < f → Holds nm w N st sp m → loop f nil m ≡ refused 10) × Beyond 64 N w w'
+abbrev pub Collects : Loop → (w w' : List ℕ) (N : ℕ) (st u : State) → Result Chain Refusal → Type 0
+Collects loop w w' N st u (Ok l) = Collected loop w w' N st l u
+Collects loop w w' N st u (Err r) = ((nm : Names) (sp : Spare) (m : Demangler) (f : ℕ) → st.depth < f → Holds nm w N st sp m → loop f nil m ≡ refused (number r)) × Beyond 64 N w w'
 
 abbrev pub loop_of : Lists → Loop
 loop_of Lists.Elements = R.elements

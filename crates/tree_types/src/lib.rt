@@ -9,35 +9,24 @@ ghost use Rattle.std.specs.Prelude.{◌+◌};
 ghost use Rattle.definition.specs.Enums as E;
 ghost use Rattle.definition.specs.Node.{Node, Nodes};
 ghost use Rattle.definition.specs.Perform as R;
-ghost use Rattle.tree_records.specs.Holds.{Ready};
-ghost use Rattle.tree_nodes.specs.Gives.{nothing_spare, full_spare, Operates};
+ghost use Rattle.machine.specs.Kinds.{kind_of};
+ghost use Rattle.tree_records.specs.Trees.{Stays, Has};
+ghost use Rattle.tree_nodes.specs.Gives.{nothing_spare, full_spare};
+ghost use Rattle.tree_nodes.specs.Trees.{Operates};
 ghost use Rattle.tree_types.specs.Cells.{Gathering};
 ghost use Rattle.tree_types.specs.TypeLists.{Rounds, Collects, loop_of, ListNode, delimited, applied};
 
-use crate::cells::{Chain, cell, label, push_list};
+use crate::cells::{Chain, label, push_list};
 use definition::{NominalKind, Param, Refusal};
-use machine::kinds::Want;
-use tree_nodes::{NameTaken, Step, WrapSpent};
-use tree_records::{Fields, Popped, State};
-
-// The result of one round of a list.
-#[derive(Clone, Copy)]
-pub enum Round {
-    More(Chain, State),
-    Last(Chain, State),
-    Refused,
-}
-
-// A whole list, and the state without its nodes.
-#[derive(Clone, Copy)]
-pub enum Listing {
-    Cells(Chain, State),
-    Nothing,
-}
+use machine::kinds::{Kind, Want};
+use tree_nodes::leave::{generic_param, nominal_kind, push_kept, push_new, wrap};
+use tree_nodes::take::{assoc_type_name, context, pop_if, pop_name, protocol, took, try_pop};
+use tree_nodes::{high, low};
+use tree_records::{Record, Trees};
 
 // The lists: the elements of a tuple, the arguments of a generic type, the requirements of a
 // signature, the members of a protocol list.
-#[derive(Clone, Copy)]
+#[derive(Clone, Copy, Debug, PartialEq, Eq)]
 pub enum Lists {
     Elements,
     Arguments,
@@ -46,275 +35,229 @@ pub enum Lists {
 }
 
 // `C`, `V`, `O`, `P`, `a`: a type declared in a context. It is remembered.
-pub fn nominal(ws: &mut [u32], n: usize, st: State, kind: NominalKind) -> Step
-    requires { Ready ws.old n st full_spare }
-    ensures { Operates (λ _. R.nominal (E.nominal_kind kind)) ws.old ws.new n st result }
+pub fn nominal(trees: &mut Trees, kind: NominalKind) -> Result<(), Refusal>
+    requires { Has trees.old full_spare }
+    ensures stays { Stays trees.old trees.new }
+    ensures operates { Operates (λ _. R.nominal (E.nominal_kind kind)) trees.old trees.new result }
 {
-    match tree_nodes::pop_name(ws, n, st) {
-        NameTaken::Name(name, u) => match tree_nodes::context(ws, n, u) {
-            Popped::Place(p, v) => {
-                let size = tree_records::field(ws, p, 1);
-                let rest = Fields {
-                    a: name,
-                    b: p as u32,
-                    c: 0,
-                    d: 0,
-                    e: 0,
-                };
-                let number = tree_nodes::nominal_number(kind);
-                Step::Done(tree_nodes::push_kept(ws, n, v, number, size + 1, 0, rest))
-            }
-            Popped::Nothing => Step::Refused(Refusal::Stack),
+    let name = pop_name(trees)?;
+    let home = context(trees)?;
+    let size = trees.field(home, Record::SIZE) + 1;
+    push_kept(
+        trees,
+        Record {
+            kind: nominal_kind(kind),
+            size,
+            a: name,
+            b: home as u32,
+            ..Record::ZERO
         },
-        NameTaken::Nothing => Step::Refused(Refusal::Stack),
-    }
+    );
+    Ok(())
 }
 
-// Takes one element of a tuple, from its marker down to its type.
-fn element(ws: &mut [u32], n: usize, st: State, l: Chain) -> Round
-    requires { Gathering ws.old n st nothing_spare l }
-    ensures { Rounds R.elements ws.old ws.new n st l result }
+// Takes one element of a tuple, from its marker down to its type. Whether it is the first element,
+// which is the last to be taken.
+fn element(trees: &mut Trees, list: &mut Chain) -> Result<bool, Refusal>
+    requires { Gathering trees.old.ws.now trees.old.n trees.old.state nothing_spare list.old }
+    ensures stays { Stays trees.old trees.new }
+    ensures rounds { Rounds R.elements trees.old.ws.now trees.new.ws.now trees.old.n trees.old.state trees.new.state list.old list.new result }
 {
-    let first = tree_nodes::took(ws, n, st, 31);
-    let after_first = first.next;
-    let variadic = tree_nodes::took(ws, n, after_first, 32);
-    let after_variadic = variadic.next;
-    let named = label(ws, n, after_variadic);
-    let after_label = named.next;
-    match tree_nodes::pop_if(ws, n, after_label, Want::Type) {
-        Popped::Place(p, u) => {
-            let added = cell(ws, n, u, l, named.label, p);
-            let list = added.list;
-            let next = added.next;
-            if first.taken {
-                return Round::Last(list, next);
-            }
-            Round::More(list, next)
-        }
-        Popped::Nothing => Round::Refused,
-    }
+    let first = took(trees, Kind::FirstElementMarker);
+    let _variadic = took(trees, Kind::VariadicMarker);
+    let named = label(trees);
+    let place = pop_if(trees, Want::Type)?;
+    list.put(trees, named, place);
+    Ok(first)
 }
 
 // Takes one argument of a generic type, the marker between two levels, or the beginning of the
-// list.
-fn argument(ws: &mut [u32], n: usize, st: State, l: Chain) -> Round
-    requires { Gathering ws.old n st nothing_spare l }
-    ensures { Rounds R.arguments ws.old ws.new n st l result }
+// list. Whether it is the beginning.
+fn argument(trees: &mut Trees, list: &mut Chain) -> Result<bool, Refusal>
+    requires { Gathering trees.old.ws.now trees.old.n trees.old.state nothing_spare list.old }
+    ensures stays { Stays trees.old trees.new }
+    ensures rounds { Rounds R.arguments trees.old.ws.now trees.new.ws.now trees.old.n trees.old.state trees.new.state list.old list.new result }
 {
-    match tree_nodes::pop_if(ws, n, st, Want::Type) {
-        Popped::Place(p, u) => {
-            let added = cell(ws, n, u, l, 4294967295, p);
-            let list = added.list;
-            let next = added.next;
-            Round::More(list, next)
+    match try_pop(trees, Want::Type) {
+        Some(place) => {
+            list.put(trees, Record::NO_LABEL, place);
+            Ok(false)
         }
-        Popped::Nothing => {
-            let opened = tree_nodes::took(ws, n, st, 30);
-            let next = opened.next;
-            if opened.taken {
-                return Round::Last(l, next);
+        None => {
+            if took(trees, Kind::EmptyList) {
+                return Ok(true);
             }
-            match tree_nodes::pop_if(ws, n, next, Want::Kind(31)) {
-                Popped::Place(p, u) => Round::More(l, u),
-                Popped::Nothing => Round::Refused,
-            }
+            let _marker = pop_if(trees, Want::Kind(Kind::FirstElementMarker))?;
+            Ok(false)
         }
     }
 }
 
 // Takes one requirement, or finds the end of them.
-fn one_requirement(ws: &mut [u32], n: usize, st: State, l: Chain) -> Round
-    requires { Gathering ws.old n st nothing_spare l }
-    ensures { Rounds R.requirements ws.old ws.new n st l result }
+fn one_requirement(trees: &mut Trees, list: &mut Chain) -> Result<bool, Refusal>
+    requires { Gathering trees.old.ws.now trees.old.n trees.old.state nothing_spare list.old }
+    ensures stays { Stays trees.old trees.new }
+    ensures rounds { Rounds R.requirements trees.old.ws.now trees.new.ws.now trees.old.n trees.old.state trees.new.state list.old list.new result }
 {
-    match tree_nodes::pop_if(ws, n, st, Want::Requirement) {
-        Popped::Place(p, u) => {
-            let added = cell(ws, n, u, l, 4294967295, p);
-            let list = added.list;
-            let next = added.next;
-            Round::More(list, next)
+    match try_pop(trees, Want::Requirement) {
+        Some(place) => {
+            list.put(trees, Record::NO_LABEL, place);
+            Ok(false)
         }
-        Popped::Nothing => Round::Last(l, st),
+        None => Ok(true),
     }
 }
 
-// Takes one member of a protocol list, from its marker down to its protocol.
-fn member(ws: &mut [u32], n: usize, st: State, l: Chain) -> Round
-    requires { Gathering ws.old n st nothing_spare l }
-    ensures { Rounds R.members ws.old ws.new n st l result }
+// Takes one member of a protocol list, from its marker down to its protocol. Whether it is the
+// first member, which is the last to be taken.
+fn member(trees: &mut Trees, list: &mut Chain) -> Result<bool, Refusal>
+    requires { Gathering trees.old.ws.now trees.old.n trees.old.state nothing_spare list.old }
+    ensures stays { Stays trees.old trees.new }
+    ensures rounds { Rounds R.members trees.old.ws.now trees.new.ws.now trees.old.n trees.old.state trees.new.state list.old list.new result }
 {
-    let first = tree_nodes::took(ws, n, st, 31);
-    let after_first = first.next;
-    match tree_nodes::protocol(ws, n, after_first) {
-        Popped::Place(p, u) => {
-            let added = cell(ws, n, u, l, 4294967295, p);
-            let list = added.list;
-            let next = added.next;
-            if first.taken {
-                return Round::Last(list, next);
-            }
-            Round::More(list, next)
-        }
-        Popped::Nothing => Round::Refused,
-    }
+    let first = took(trees, Kind::FirstElementMarker);
+    let place = protocol(trees)?;
+    list.put(trees, Record::NO_LABEL, place);
+    Ok(first)
 }
 
-// Performs one round of a list.
-fn one_round(ws: &mut [u32], n: usize, st: State, l: Chain, of: Lists) -> Round
-    requires { Gathering ws.old n st nothing_spare l }
-    ensures { Rounds (loop_of of) ws.old ws.new n st l result }
+// Performs one round of a list. Whether it is the last.
+// Kept: a match on the list in the place of a closure; four lines, and no contract of a closure.
+fn one_round(trees: &mut Trees, list: &mut Chain, of: Lists) -> Result<bool, Refusal>
+    requires { Gathering trees.old.ws.now trees.old.n trees.old.state nothing_spare list.old }
+    ensures stays { Stays trees.old trees.new }
+    ensures rounds { Rounds (loop_of of) trees.old.ws.now trees.new.ws.now trees.old.n trees.old.state trees.new.state list.old list.new result }
 {
     match of {
-        Lists::Elements => element(ws, n, st, l),
-        Lists::Arguments => argument(ws, n, st, l),
-        Lists::Requirements => one_requirement(ws, n, st, l),
-        Lists::Members => member(ws, n, st, l),
+        Lists::Elements => element(trees, list),
+        Lists::Arguments => argument(trees, list),
+        Lists::Requirements => one_requirement(trees, list),
+        Lists::Members => member(trees, list),
     }
 }
 
 // Takes a list, from its last node on. Each node is put in front.
-fn collect(ws: &mut [u32], n: usize, st: State, of: Lists) -> Listing
-    requires { Ready ws.old n st nothing_spare }
-    ensures { Collects (loop_of of) ws.old ws.new n st result }
+fn collect(trees: &mut Trees, of: Lists) -> Result<Chain, Refusal>
+    requires { Has trees.old nothing_spare }
+    ensures stays { Stays trees.old trees.new }
+    ensures collects { Collects (loop_of of) trees.old.ws.now trees.new.ws.now trees.old.n trees.old.state trees.new.state result }
 {
-    let mut next = st;
-    let mut list = Chain {
-        count: 0,
-        sum: 0,
-        first: 0,
-    };
-    loop {
-        match one_round(ws, n, next, list, of) {
-            Round::More(l, u) => {
-                list = l;
-                next = u;
-            }
-            Round::Last(l, u) => {
-                return Listing::Cells(l, u);
-            }
-            Round::Refused => {
-                return Listing::Nothing;
-            }
+    let mut list = Chain::EMPTY;
+    'rounds: loop {
+        let last = one_round(trees, &mut list, of)?;
+        if last {
+            return Ok(list);
         }
     }
 }
 
 // Pushes a node of a kind over a list. The empty list represents no nodes.
-fn over_list(ws: &mut [u32], n: usize, st: State, of: Lists, kind: u32) -> Step
-    requires { Ready ws.old n st full_spare }
-    ensures { (c : Nodes → Node) → ListNode kind c → Operates (delimited (loop_of of) c) ws.old ws.new n st result }
+fn over_list(trees: &mut Trees, of: Lists, kind: Kind) -> Result<(), Refusal>
+    requires { Has trees.old full_spare }
+    ensures stays { Stays trees.old trees.new }
+    ensures operates { (c : Nodes → Node) → ListNode (kind_of kind) c → Operates (delimited (loop_of of) c) trees.old trees.new result }
 {
-    let empty = tree_nodes::took(ws, n, st, 30);
-    let next = empty.next;
-    if empty.taken {
-        let none = Chain {
-            count: 0,
-            sum: 0,
-            first: 0,
-        };
-        return Step::Done(push_list(ws, n, next, none, kind));
+    if took(trees, Kind::EmptyList) {
+        push_list(trees, Chain::EMPTY, kind);
+        return Ok(());
     }
-    match collect(ws, n, next, of) {
-        Listing::Cells(l, u) => Step::Done(push_list(ws, n, u, l, kind)),
-        Listing::Nothing => Step::Refused(Refusal::Stack),
-    }
+    let list = collect(trees, of)?;
+    push_list(trees, list, kind);
+    Ok(())
 }
 
 // `t`: a tuple.
-pub fn tuple(ws: &mut [u32], n: usize, st: State) -> Step
-    requires { Ready ws.old n st full_spare }
-    ensures { Operates (λ _. R.tuple) ws.old ws.new n st result }
+pub fn tuple(trees: &mut Trees) -> Result<(), Refusal>
+    requires { Has trees.old full_spare }
+    ensures stays { Stays trees.old trees.new }
+    ensures operates { Operates (λ _. R.tuple) trees.old trees.new result }
 {
-    match tree_nodes::wrap(st) {
-        WrapSpent::Next(u) => over_list(ws, n, u, Lists::Elements, 9),
-        WrapSpent::Refused => Step::Refused(Refusal::Nesting),
-    }
+    wrap(trees)?;
+    over_list(trees, Lists::Elements, Kind::Tuple)
 }
 
 // `p`: a list of protocols.
-pub fn protocol_list(ws: &mut [u32], n: usize, st: State) -> Step
-    requires { Ready ws.old n st full_spare }
-    ensures { Operates (λ _. R.protocol_list) ws.old ws.new n st result }
+pub fn protocol_list(trees: &mut Trees) -> Result<(), Refusal>
+    requires { Has trees.old full_spare }
+    ensures stays { Stays trees.old trees.new }
+    ensures operates { Operates (λ _. R.protocol_list) trees.old trees.new result }
 {
-    match tree_nodes::wrap(st) {
-        WrapSpent::Next(u) => over_list(ws, n, u, Lists::Members, 15),
-        WrapSpent::Refused => Step::Refused(Refusal::Nesting),
-    }
+    wrap(trees)?;
+    over_list(trees, Lists::Members, Kind::ProtocolList)
 }
 
 // Takes the arguments of a generic type, and the type that has them. The result is remembered.
-fn apply(ws: &mut [u32], n: usize, st: State) -> Step
-    requires { Ready ws.old n st full_spare }
-    ensures { Operates applied ws.old ws.new n st result }
+fn apply(trees: &mut Trees) -> Result<(), Refusal>
+    requires { Has trees.old full_spare }
+    ensures stays { Stays trees.old trees.new }
+    ensures operates { Operates applied trees.old trees.new result }
 {
-    match collect(ws, n, st, Lists::Arguments) {
-        Listing::Cells(l, u) => match tree_nodes::pop_if(ws, n, u, Want::Type) {
-            Popped::Place(p, v) => {
-                let size = tree_records::field(ws, p, 1);
-                let rest = Fields {
-                    a: p as u32,
-                    b: l.count,
-                    c: l.first,
-                    d: 0,
-                    e: 0,
-                };
-                Step::Done(tree_nodes::push_kept(ws, n, v, 18, l.sum + size + 1, 0, rest))
-            }
-            Popped::Nothing => Step::Refused(Refusal::Stack),
+    let list = collect(trees, Lists::Arguments)?;
+    let base = pop_if(trees, Want::Type)?;
+    let size = list.sum + trees.field(base, Record::SIZE) + 1;
+    push_kept(
+        trees,
+        Record {
+            kind: Kind::BoundGeneric,
+            size,
+            a: base as u32,
+            b: list.count,
+            c: list.first,
+            ..Record::ZERO
         },
-        Listing::Nothing => Step::Refused(Refusal::Stack),
-    }
+    );
+    Ok(())
 }
 
 // `G`: a generic type with its arguments.
-pub fn bound_generic(ws: &mut [u32], n: usize, st: State) -> Step
-    requires { Ready ws.old n st full_spare }
-    ensures { Operates (λ _. R.bound_generic) ws.old ws.new n st result }
+pub fn bound_generic(trees: &mut Trees) -> Result<(), Refusal>
+    requires { Has trees.old full_spare }
+    ensures stays { Stays trees.old trees.new }
+    ensures operates { Operates (λ _. R.bound_generic) trees.old trees.new result }
 {
-    match tree_nodes::wrap(st) {
-        WrapSpent::Next(u) => apply(ws, n, u),
-        WrapSpent::Refused => Step::Refused(Refusal::Nesting),
-    }
+    wrap(trees)?;
+    apply(trees)
 }
 
 // `l`, `r`: a generic signature with `params` parameters.
-pub fn generic_signature(ws: &mut [u32], n: usize, st: State, params: usize) -> Step
-    requires { Ready ws.old n st full_spare }
-    ensures { Operates (λ _. R.generic_signature params) ws.old ws.new n st result }
+pub fn generic_signature(trees: &mut Trees, params: usize) -> Result<(), Refusal>
+    requires { Has trees.old full_spare }
+    ensures stays { Stays trees.old trees.new }
+    ensures operates { Operates (λ _. R.generic_signature params) trees.old trees.new result }
 {
-    match collect(ws, n, st, Lists::Requirements) {
-        Listing::Cells(l, u) => {
-            let rest = Fields {
-                a: tree_nodes::low(params),
-                b: tree_nodes::high(params),
-                c: l.count,
-                d: l.first,
-                e: 0,
-            };
-            Step::Done(tree_nodes::push_new(ws, n, u, 12, l.sum + 1, 0, rest))
-        }
-        Listing::Nothing => Step::Refused(Refusal::Stack),
-    }
+    let list = collect(trees, Lists::Requirements)?;
+    push_new(
+        trees,
+        Record {
+            kind: Kind::GenericSignature,
+            size: list.sum + 1,
+            a: low(params),
+            b: high(params),
+            c: list.count,
+            d: list.first,
+            ..Record::ZERO
+        },
+    );
+    Ok(())
 }
 
 // `Q`: a member type of a generic parameter. It is remembered.
-pub fn archetype(ws: &mut [u32], n: usize, st: State, param: Param) -> Step
-    requires { Ready ws.old n st full_spare }
-    ensures { Operates (λ _. R.archetype (E.param param)) ws.old ws.new n st result }
+pub fn archetype(trees: &mut Trees, param: Param) -> Result<(), Refusal>
+    requires { Has trees.old full_spare }
+    ensures stays { Stays trees.old trees.new }
+    ensures operates { Operates (λ _. R.archetype (E.param param)) trees.old trees.new result }
 {
-    match tree_nodes::assoc_type_name(ws, n, st) {
-        NameTaken::Name(name, u) => {
-            let base = tree_nodes::generic_param(ws, n, u, param);
-            let rest = Fields {
-                a: name,
-                b: base.place as u32,
-                c: 0,
-                d: 0,
-                e: 0,
-            };
-            let next = base.next;
-            Step::Done(tree_nodes::push_kept(ws, n, next, 8, 2, 0, rest))
-        }
-        NameTaken::Nothing => Step::Refused(Refusal::Stack),
-    }
+    let name = assoc_type_name(trees)?;
+    let base = generic_param(trees, param);
+    push_kept(
+        trees,
+        Record {
+            kind: Kind::DependentMember,
+            size: 2,
+            a: name,
+            b: base as u32,
+            ..Record::ZERO
+        },
+    );
+    Ok(())
 }

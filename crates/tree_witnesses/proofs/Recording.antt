@@ -5,28 +5,22 @@ use Prim.Native.Nat.{ℕ, ◌+◌, ◌-◌, ◌≤◌, ◌<◌}
 use Prim.Native.String.{String}
 use native.Mathlib.Omega.{arith}
 use lib.ListN.{get_or}
-use Rattle.definition.specs.Base.{Name, bytes, refused, Done, and_then, ◌>>=◌}
-use Rattle.definition.specs.Enums.{number}
+use Rattle.definition.specs.Base.{Name, bytes, ◌>>=◌}
 use Rattle.definition.specs.Node.{Node, Record, DependentMember, kind, size, count, view}
 use Rattle.definition.specs.Machine.{restack, push}
 use Rattle.definition.specs.Operators as Op
 use Rattle.definition.specs.Perform as R
 use Rattle.definition.specs.Perform.{Demangler, Run}
-use Rattle.definition.specs.declared.Refusal.{Refusal}
-use Rattle.definition.specs.declared.Refusal.TheVariants as Refusal
 use Rattle.tree_records.specs.Lies.{at, Lies, WordsOf, fixed, numbered}
-use Rattle.tree_records.specs.Holds.{Fixed, Names, Named, Spare, Holds, Ready, Grew, for_record, for_push}
+use Rattle.tree_records.specs.Holds.{Fixed, Names, Named, Spare, Ready, Grew, for_record, for_push}
 use Rattle.tree_records.specs.declared.State.{State}
-use Rattle.tree_nodes.specs.declared.Built.{Built}
-use Rattle.tree_nodes.specs.declared.Built.TheVariants as Built
-use Rattle.tree_nodes.specs.declared.NameTaken.{NameTaken}
-use Rattle.tree_nodes.specs.declared.NameTaken.TheVariants as NameTaken
-use Rattle.tree_nodes.specs.declared.Step.TheVariants as Step
-use Rattle.tree_nodes.specs.Gives.{spare, nothing_spare, full_spare, taken, for_nodes, low_half, high_half, Given, Gives, Under, GivenName, GivesName, TakesName, Building, Builds, Left, Operates}
+use Rattle.tree_nodes.specs.Results as Step
+use Rattle.tree_nodes.specs.Gives.{spare, nothing_spare, full_spare, taken, for_nodes, low_half, high_half, Given, Gives, Under, GivenName, GivesName, Building, Left, Operates}
 use Rattle.tree_nodes.proofs.Taking.{less_spare}
 use Rattle.tree_nodes.proofs.Making.{halves, fixed_name}
+use Rattle.tree_records.specs.Trees.{Stays, Has}
+use Rattle.tree_records.specs.declared.Trees.{Trees}
 use Rattle.tree_nodes.proofs.Ready.{ready_less, after_grew}
-use Rattle.tree_parts.proofs.record.Abouts.{Not}
 
 -- WHAT IS LEFT TO SPARE
 -- what an operator has to spare, without one node
@@ -78,17 +72,6 @@ module _ (f : Run Node) {w w₁ w₂ : List ℕ} {N : ℕ} {st u v : State} {p :
     long = l.keeps.long ∙ g.keeps.long;
   }
 
--- an operator whose first take is refused
-pub first_refused : (f : Run Node) (g : (ℕ → String) → Node → Run Done) {w w' : List ℕ} {N : ℕ} {st : State} (r : Refusal) → Not f (number r) w w' N st → Operates (λ s. f >>= λ x. g s x) w w' N st (Step.Refused r)
-first_refused f g r h = record { runs = λ nm m i k. ap (λ y. and_then y (g nm.fixed)) (h.0 nm full_spare m k); past = h.1.past; long = h.1.long }
-
--- the result of an arm for what is built
-pub built_at : (f : Run Node) (own gain : ℕ) {w w' : List ℕ} {N : ℕ} {st : State} {r : Built} (p : ℕ) (u : State) → r ≡ Built.Place p u → Builds f own gain w w' N st r → Building f own gain w w' N st p u
-built_at f own gain {w} {w'} {N} {st} p u e h = subst (λ (x : Built). Builds f own gain w w' N st x) e h
-
-pub built_not : (f : Run Node) (own gain : ℕ) {w w' : List ℕ} {N : ℕ} {st : State} {r : Built} (e : Refusal) → r ≡ Built.Refused e → Builds f own gain w w' N st r → Not f (number e) w w' N st
-built_not f own gain {w} {w'} {N} {st} r e h = subst (λ (x : Built). Builds f own gain w w' N st x) e h
-
 -- `Tl`: TWO RECORDS
 module _ {w w₁ w₂ w₃ : List ℕ} {N : ℕ} {st u v x y : State} {p name : ℕ} where
   pub associated_type_left : (z : ℕ) → Gives R.protocol 2 w w₁ N st p u → GivesName R.pop_name w₁ N u name v → z ≡ at w₁ p 1 + 1 → Grew w₁ w₂ N v x (8 ∷ z ∷ 0 ∷ name ∷ p ∷ 0 ∷ 0 ∷ 0 ∷ []) →
@@ -115,18 +98,6 @@ module _ {w w₁ w₂ w₃ : List ℕ} {N : ℕ} {st u v x y : State} {p name : 
     long = l.keeps.long ∙ g.keeps.long ∙ a.keeps.long;
   }
 
-pub associated_type_first : {w w₁ : List ℕ} {N : ℕ} {st : State} → Not R.protocol 10 w w₁ N st → Operates (λ _. R.associated_type) w w₁ N st (Step.Refused Refusal.Stack)
-unfolding R.associated_type number
-associated_type_first a = record { runs = λ nm m i h. rw (a.0 nm full_spare m h) refl; past = a.1.past; long = a.1.long }
-
-pub associated_type_second : {w w₁ : List ℕ} {N : ℕ} {st u : State} {p : ℕ} → Gives R.protocol 2 w w₁ N st p u → ((nm : Names) (sp : Spare) (m : Demangler) → Holds nm w₁ N u sp m → R.pop_name m ≡ refused 10) → Operates (λ _. R.associated_type) w w₁ N st (Step.Refused Refusal.Stack)
-unfolding R.associated_type number
-associated_type_second a b = record {
-  runs = λ nm m i h. let c = a.gives nm full_spare m h in rw (c.is, b nm (taken 2 (size c.tree) full_spare) c.machine c.holds) refl;
-  past = a.keeps.past;
-  long = a.keeps.long;
-}
-
 -- one node to spare
 pub ready_one : {w : List ℕ} {N : ℕ} {st : State} {sp : Spare} → 1 ≤ sp.nodes → Ready w N st sp → Ready w N st (spare 0 0 1 0)
 ready_one l r = ready_less (spare 0 0 1 0) (omega arith) (omega arith) (omega arith) (omega arith) r
@@ -134,14 +105,14 @@ ready_one l r = ready_less (spare 0 0 1 0) (omega arith) (omega arith) (omega ar
 pub under_built : {f : Run Node} {w w₁ : List ℕ} {N : ℕ} {st u : State} {p : ℕ} → Building f 1 1 w w₁ N st p u → Ready w N st full_spare → Under w₁ N u p
 under_built g r = under (taken 1 0 but_one) (omega arith) (omega arith) g.below (omega (arith, g.small)) (after_built but_one g r)
 
--- the result of an arm about a name
-pub named_at : (f : Run Name) {w : List ℕ} {N : ℕ} {st : State} {r : NameTaken} (k : ℕ) (u : State) → r ≡ NameTaken.Name k u → TakesName f w N st r → GivesName f w N st k u
-named_at f {w} {N} {st} k u e h = subst (λ (x : NameTaken). TakesName f w N st x) e h
-
-pub named_not : (f : Run Name) {w : List ℕ} {N : ℕ} {st : State} {r : NameTaken} → r ≡ NameTaken.Nothing → TakesName f w N st r → (nm : Names) (sp : Spare) (m : Demangler) → Holds nm w N st sp m → f m ≡ refused 10
-named_not f {w} {N} {st} e h = subst (λ (x : NameTaken). TakesName f w N st x) e h
-
 -- the record that was just made may be a child
 pub under_grown : {w w₁ : List ℕ} {N : ℕ} {st u : State} {k z : ℕ} {vs : List ℕ} {sp : Spare} → 7 ≤ sp.makes → 1 ≤ sp.pushes → z ≤ 262145 → Grew w w₁ N st u (k ∷ z ∷ vs) → Ready w N st sp → Under w₁ N u st.top
 under_grown {w} {w₁} {N} {st} {u} {k} {z} {vs} {sp} a b e g r =
     under (spare (sp.makes - 2) sp.pushes sp.nodes sp.keeps) (omega arith) (omega arith) (omega (arith, ap (λ (s : State). s.top) g.state)) (omega (arith, g.fields 1 (omega arith))) (after_grew g (omega arith) r)
+
+-- on `Trees`, after a tree that was made
+pub has_built : {t t' : Trees} {f : Run Node} {gain p : ℕ} (sp : Spare) → Stays t t' → Building f 1 gain t.ws.now t'.ws.now t.n t.state p t'.state → Has t (for_nodes 1 sp) → Has t' (taken gain 0 sp)
+has_built sp s g r = rw s.ceiling (after_built sp g r)
+
+pub under_in : {t t' : Trees} {f : Run Node} {p : ℕ} → Stays t t' → Building f 1 1 t.ws.now t'.ws.now t.n t.state p t'.state → Has t full_spare → Under t'.ws.now t'.n t'.state p
+under_in s g r = rw s.ceiling (under_built g r)

@@ -3,27 +3,28 @@ use mathlib.Core.Path.{◌≡◌, refl, ◌∙◌, subst}
 use mathlib.Core.List.{List, [], ◌∷◌}
 use Prim.Native.Nat.{ℕ, ◌+◌, ◌≤◌, ◌<◌}
 use native.Mathlib.Omega.{arith}
-use Rattle.definition.specs.Base.{bytes, refused}
-use Rattle.definition.specs.Enums.{number}
+use Rattle.definition.specs.Base.{bytes}
 use Rattle.definition.specs.Kind as K
 use Rattle.definition.specs.Node.{Node, LazyWitness, ProtocolWitness, AssociatedConformance, kind, size, count, view}
 use Rattle.definition.specs.Machine.{restack, push}
 use Rattle.definition.specs.Perform as R
 use Rattle.definition.specs.Perform.{Demangler, Run}
 use Rattle.definition.specs.declared.Refusal.{Refusal}
-use Rattle.definition.specs.declared.Refusal.TheVariants as Refusal
 use Rattle.tree_records.specs.Lies.{at, Lies}
 use Rattle.tree_records.specs.Holds.{Fixed, Names, Named, Spare, Holds, Ready, Keeps, for_record, for_push}
 use Rattle.tree_records.specs.declared.State.{State}
-use Rattle.tree_nodes.specs.declared.Marked.{Marked}
-use Rattle.tree_nodes.specs.declared.Step.TheVariants as Step
-use Rattle.machine.specs.Beyond.{Beyond}
+use Rattle.tree_nodes.specs.Results.{Marked}
+use Rattle.tree_nodes.specs.Results as Step
 use Rattle.tree_nodes.specs.Gives.{nothing_spare, full_spare, taken, for_nodes, Given, Gives, GivenName, GivesName, Marks, Building, Left, Operates}
 use Rattle.tree_nodes.proofs.Taking.{less_spare}
 use Rattle.tree_nodes.proofs.Leaving.{keeps_then, beyond_then}
 use Rattle.tree_parts.specs.Parts.{Qualifier, Qualifies}
 use Rattle.tree_parts.specs.declared.record.Qualified.{Qualified}
-use Rattle.tree_parts.proofs.record.Abouts.{Not}
+use Rattle.std.specs.Prelude.{Err}
+use Rattle.tree_records.specs.Trees.{Stays, Has}
+use Rattle.tree_records.specs.declared.Trees.{Trees}
+use Rattle.tree_nodes.specs.Trees.{Refuses, Operates as Operates-in}
+use Rattle.tree_nodes.proofs.Steps.{Moves}
 use Rattle.tree_witnesses.proofs.Recording.{but_one}
 
 -- `Wl`, `WL`
@@ -48,15 +49,12 @@ module _ {w w₁ w₂ : List ℕ} {N : ℕ} {st u v x : State} {c ty : ℕ} wher
     long = l.keeps.long ∙ g.keeps.long;
   }
 
-pub lazy_first : {w w₁ : List ℕ} {N : ℕ} {st : State} (name : ℕ) (r : Refusal) → Not R.conformance (number r) w w₁ N st → Operates (λ s. R.lazy_witness (bytes (s name))) w w₁ N st (Step.Refused r)
+-- no type above the conformance
+pub lazy_second : {t t₁ t₂ : Trees} {c : ℕ} (name : ℕ) {r : Refusal} → Stays t t₁ → Building R.conformance 1 4 t.ws.now t₁.ws.now t.n t.state c t₁.state → Refuses (R.pop_if K.is_type) t₁ t₂ r → Operates-in (λ s. R.lazy_witness (bytes (s name))) t t₂ (Err r)
 unfolding R.lazy_witness
-lazy_first name r a = record { runs = λ nm m i h. rw (a.0 nm full_spare m h) refl; past = a.1.past; long = a.1.long }
-
-pub lazy_second : {w w₁ w₂ : List ℕ} {N : ℕ} {st u : State} {c : ℕ} (name : ℕ) → Building R.conformance 1 4 w w₁ N st c u → Not (R.pop_if K.is_type) 10 w₁ w₂ N u → Operates (λ s. R.lazy_witness (bytes (s name))) w w₂ N st (Step.Refused Refusal.Stack)
-unfolding R.lazy_witness number
-lazy_second name a b =
-    let e : Beyond 64 _ _ _ = beyond_then a.keeps b.1 in
-    record { runs = λ nm m i h. let c = a.gives nm but_one m h in rw (c.is, b.0 nm (taken 4 (size c.tree) but_one) c.machine c.holds) refl; past = e.past; long = e.long }
+lazy_second name s a b =
+    let e = beyond_then a.keeps (rw s.ceiling at b.beyond) in
+    record { runs = λ nm m i h. let c = a.gives nm but_one m h in rw (c.is, b.refuses nm (taken 4 (size c.tree) but_one) c.machine (rw s.ceiling c.holds)) refl; past = e.past; long = e.long }
 
 -- `TW`
 module _ {w w₁ w₂ : List ℕ} {N : ℕ} {st u v x : State} {entity c : ℕ} where
@@ -87,33 +85,23 @@ module _ {w w₁ w₂ : List ℕ} {N : ℕ} {st u v x : State} {entity c : ℕ} 
     long = l.keeps.long ∙ b.keeps.long;
   }
 
-pub witness_first : {w w₁ : List ℕ} {N : ℕ} {st : State} → Not (R.pop_if K.is_entity) 10 w w₁ N st → Operates (λ _. R.protocol_witness) w w₁ N st (Step.Refused Refusal.Stack)
-unfolding R.protocol_witness number
-witness_first a = record { runs = λ nm m i h. rw (a.0 nm full_spare m h) refl; past = a.1.past; long = a.1.long }
-
-pub witness_second : {w w₁ w₂ : List ℕ} {N : ℕ} {st u : State} {p : ℕ} (r : Refusal) → Gives (R.pop_if K.is_entity) 3 w w₁ N st p u → Not R.conformance (number r) w₁ w₂ N u → Operates (λ _. R.protocol_witness) w w₂ N st (Step.Refused r)
-unfolding R.protocol_witness
-witness_second r a b =
-    let e : Beyond 64 _ _ _ = beyond_then a.keeps b.1 in
-    record { runs = λ nm m i h. let c = a.gives nm full_spare m h in rw (c.is, b.0 nm (taken 3 (size c.tree) full_spare) c.machine c.holds) refl; past = e.past; long = e.long }
-
 -- the size of the entity, after the conformance
 pub entity_small : {f g : Run Node} {a b : ℕ} {w w₁ w₂ : List ℕ} {N : ℕ} {st u v : State} {p q : ℕ} → Gives f a w w₁ N st p u → Building g 1 b w₁ w₂ N u q v → at w₂ p 1 ≤ 262144
 entity_small {p = p} x y = omega (arith, x.small, y.keeps.fields p 1 x.below (omega arith))
 
-pub after_qualifier : {w w₁ : List ℕ} {N : ℕ} {st : State} {q : Qualified} {sp : Spare} → Qualifies w w₁ N st q → Ready w N st sp → Ready w₁ N q.next sp
+pub after_qualifier : {w w₁ : List ℕ} {N : ℕ} {st u : State} {q : Qualified} {sp : Spare} → Qualifies w w₁ N st u q → Ready w N st sp → Ready w₁ N u sp
 after_qualifier a r = let g = a.gives r.names _ r.machine r.holds in record { names = r.names; machine = g.machine; holds = g.holds }
 
 -- `Tn`
-module _ {w w₁ w₂ : List ℕ} {N : ℕ} {st u : State} {required : ℕ} {k : Marked} {q : Qualified} (a : Gives R.protocol 2 w w₁ N st required u) (b : Marks (R.took 31) w₁ N u k) (c : Qualifies w₁ w₂ N k.next q) where
+module _ {w w₁ w₂ : List ℕ} {N : ℕ} {st u : State} {z : State} {required : ℕ} {k : Marked} {q : Qualified} (a : Gives R.protocol 2 w w₁ N st required u) (b : Marks (R.took 31) w₁ N u k) (c : Qualifies w₁ w₂ N k.next z q) where
   -- what was required is below
-  pub required_below : required < q.next.top
+  pub required_below : required < z.top
   required_below = omega (arith, a.below, b.top, c.rising)
 
   required_keeps : Keeps w w₂ N st.top
   required_keeps = keeps_then st.top u.top a.rising a.keeps (subst (λ (n : ℕ). Keeps w₁ w₂ N n) b.top c.keeps)
 
-  module _ {v : State} {name : ℕ} (d : GivesName R.pop_name w₂ N q.next name v) where
+  module _ {v : State} {name : ℕ} (d : GivesName R.pop_name w₂ N z name v) where
     pub conforming_left : {w₃ : List ℕ} {x y : State} {p : ℕ} → Gives (R.pop_if K.is_type) 3 w₂ w₂ N v p x → Left w₂ w₃ N x y (26 ∷ 2 ∷ 0 ∷ q.form ∷ name ∷ p ∷ q.cell ∷ required ∷ []) → Operates (λ _. R.associated_conformance) w w₃ N st (Step.Done y)
     unfolding R.associated_conformance push kind size count view
     conforming_left {w₃} {x} {y} {p} e l = record {
@@ -121,7 +109,7 @@ module _ {w w₁ w₂ : List ℕ} {N : ℕ} {st u : State} {required : ℕ} {k :
           let f₁ : Given R.protocol 2 nm w₁ N required u full_spare m = a.gives nm full_spare m h in
           let sp₁ : Spare = taken 2 (size f₁.tree) full_spare in
           let f₂ = b.gives nm sp₁ f₁.machine f₁.holds in
-          let f₃ : Qualifier nm w₂ N q sp₁ f₂.0 = c.gives nm sp₁ f₂.0 f₂.2 in
+          let f₃ : Qualifier nm w₂ N q z sp₁ f₂.0 = c.gives nm sp₁ f₂.0 f₂.2 in
           let f₄ : GivenName R.pop_name nm w₂ N name v sp₁ f₃.machine = d.gives nm sp₁ f₃.machine f₃.holds in
           let sp₂ : Spare = taken 3 1 sp₁ in
           let f₅ : Given (R.pop_if K.is_type) 3 nm w₂ N p x sp₂ f₄.machine = e.gives nm sp₂ f₄.machine f₄.holds in
@@ -149,35 +137,12 @@ module _ {w w₁ w₂ : List ℕ} {N : ℕ} {st u : State} {required : ℕ} {k :
       long = l.keeps.long ∙ required_keeps.long;
     }
 
-    pub conforming_no_type : {w₃ : List ℕ} → Not (R.pop_if K.is_type) 10 w₂ w₃ N v → Operates (λ _. R.associated_conformance) w w₃ N st (Step.Refused Refusal.Stack)
-    unfolding R.associated_conformance number
-    conforming_no_type e =
-        let past : Beyond 64 _ _ _ = beyond_then required_keeps e.1 in
-        record {
-          runs = λ nm m i h.
-              let f₁ = a.gives nm full_spare m h in
-              let sp₁ : Spare = taken 2 (size f₁.tree) full_spare in
-              let f₂ = b.gives nm sp₁ f₁.machine f₁.holds in
-              let f₃ = c.gives nm sp₁ f₂.0 f₂.2 in
-              let f₄ = d.gives nm sp₁ f₃.machine f₃.holds in
-              rw (f₁.is, f₂.1, f₃.is, f₄.is, e.0 nm (taken 3 1 sp₁) f₄.machine f₄.holds) refl;
-          past = past.past;
-          long = past.long;
-        }
+pub moves_qualified : {t t' : Trees} {q : Qualified} → Stays t t' → Qualifies t.ws.now t'.ws.now t.n t.state t'.state q → Moves (R.try K.is_protocol) (λ _. Unit) t t'
+moves_qualified s k = record {
+  stays = s;
+  beyond = record { past = k.keeps.past; long = k.keeps.long };
+  moves = λ nm sp m h. let o = k.gives nm sp m h in record { value = o.protocol; spare = sp; machine = o.machine; is = o.is; so = tt; holds = rw s.ceiling o.holds };
+}
 
-  pub conforming_no_name : ((nm : Names) (sp : Spare) (m : Demangler) → Holds nm w₂ N q.next sp m → R.pop_name m ≡ refused 10) → Operates (λ _. R.associated_conformance) w w₂ N st (Step.Refused Refusal.Stack)
-  unfolding R.associated_conformance number
-  conforming_no_name d = record {
-    runs = λ nm m i h.
-        let f₁ = a.gives nm full_spare m h in
-        let sp₁ : Spare = taken 2 (size f₁.tree) full_spare in
-        let f₂ = b.gives nm sp₁ f₁.machine f₁.holds in
-        let f₃ = c.gives nm sp₁ f₂.0 f₂.2 in
-        rw (f₁.is, f₂.1, f₃.is, d nm sp₁ f₃.machine f₃.holds) refl;
-    past = required_keeps.past;
-    long = required_keeps.long;
-  }
-
-pub conforming_first : {w w₁ : List ℕ} {N : ℕ} {st : State} → Not R.protocol 10 w w₁ N st → Operates (λ _. R.associated_conformance) w w₁ N st (Step.Refused Refusal.Stack)
-unfolding R.associated_conformance number
-conforming_first a = record { runs = λ nm m i h. rw (a.0 nm full_spare m h) refl; past = a.1.past; long = a.1.long }
+pub has_qualified : {t t' : Trees} {q : Qualified} {sp : Spare} → Stays t t' → Qualifies t.ws.now t'.ws.now t.n t.state t'.state q → Has t sp → Has t' sp
+has_qualified s k r = rw s.ceiling (after_qualifier k r)

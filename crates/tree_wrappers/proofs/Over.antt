@@ -2,23 +2,25 @@
 use mathlib.Core.Path.{◌≡◌, refl, sym, ap, ◌∙◌}
 use mathlib.Core.Bool.{Bool}
 use mathlib.Core.List.{List, [], ◌∷◌}
-use Prim.Native.Nat.{ℕ, ◌+◌, ◌-◌}
+use Prim.Native.Nat.{ℕ, ◌+◌}
 use native.Mathlib.Omega.{arith}
-use Rattle.definition.specs.Base.{refused, Done, and_then, ◌>>◌}
+use Rattle.definition.specs.Base.{Done, and_then, ◌>>◌}
 use Rattle.definition.specs.Kind as K
-use Rattle.definition.specs.Enums.{number}
 use Rattle.definition.specs.Node.{Node, Metatype, InOut, Static, VariableInitializer, kind, size, count, view}
 use Rattle.definition.specs.Machine as M
 use Rattle.definition.specs.Machine.{restack, push}
 use Rattle.definition.specs.Perform as R
 use Rattle.definition.specs.Perform.{Demangler}
 use Rattle.tree_records.specs.Lies.{at}
-use Rattle.tree_records.specs.Holds.{Names, Spare, Holds, for_record, for_push}
+use Rattle.tree_records.specs.Holds.{for_record, for_push}
 use Rattle.tree_records.specs.declared.State.{State}
-use Rattle.definition.specs.declared.Refusal.TheVariants as Refusal
-use Rattle.tree_nodes.specs.declared.Step.{Step}
-use Rattle.tree_nodes.specs.declared.Step.TheVariants as Step
+use Rattle.tree_nodes.specs.Results.{Step}
 use Rattle.tree_nodes.specs.Gives.{nothing_spare, full_spare, taken, Given, Gives, Performed, Operates, Left, WrapsTo, OneChild, over}
+use Rattle.std.specs.Prelude.{Result}
+use Rattle.definition.specs.declared.Refusal.{Refusal}
+use Rattle.tree_records.specs.Trees.{Reads}
+use Rattle.tree_records.specs.declared.Trees.{Trees}
+use Rattle.tree_nodes.specs.Trees.{step_of, Operates as Operates-in}
 use Rattle.tree_nodes.proofs.Taking.{less_spare}
 
 module _ (want : ℕ → Bool) {w w₁ w₂ : List ℕ} {N : ℕ} {st u v : State} {p : ℕ} where
@@ -46,11 +48,6 @@ module _ (want : ℕ → Bool) {w w₁ w₂ : List ℕ} {N : ℕ} {st u v : Stat
     long = l.keeps.long ∙ g.keeps.long;
   }
 
--- nothing was written
-pub over_refused : (want : ℕ → Bool) (c : Node → Node) {w : List ℕ} {N : ℕ} {st : State} → ((nm : Names) (sp : Spare) (m : Demangler) → Holds nm w N st sp m → R.pop_if want m ≡ refused 10) → Operates (over want c) w w N st (Step.Refused Refusal.Stack)
-unfolding number
-over_refused want c h = record { runs = λ nm m i k. ap (λ y. and_then y (λ x. push (c x))) (h nm full_spare m k); past = λ i l. refl; long = refl }
-
 -- WRAPPED: a wrap, and then the effect of an operator
 pub wrapped_then : (f : Performed) {w w' : List ℕ} {N : ℕ} {st u : State} (r : Step) → WrapsTo w N st u → Operates f w w' N u r → Operates (λ s. M.wrap >> f s) w w' N st r
 wrapped_then f (Step.Done v) t o = record {
@@ -69,10 +66,6 @@ wrapped_then f (Step.Refused e) t o = record {
   long = o.long;
 }
 
-pub wrapped_refused : (f : Performed) {w : List ℕ} {N : ℕ} {st : State} → ((nm : Names) (sp : Spare) (m : Demangler) → Holds nm w N st sp m → M.wrap m ≡ refused 8) → Operates (λ s. M.wrap >> f s) w w N st (Step.Refused Refusal.Nesting)
-unfolding number
-wrapped_refused f h = record { runs = λ nm m i k. ap (λ y. and_then y (λ _. f nm.fixed)) (h nm full_spare m k); past = λ i l. refl; long = refl }
-
 -- THE NODES WITH ONE CHILD
 pub metatype_node : OneChild K.metatype Metatype
 unfolding kind size count view
@@ -89,3 +82,7 @@ static_node = record { kind_is = λ x. refl; size_is = λ x. refl; count_is = λ
 pub variable_initializer_node : OneChild K.variable_initializer VariableInitializer
 unfolding kind size count view
 variable_initializer_node = record { kind_is = λ x. refl; size_is = λ x. refl; count_is = λ x. refl; body = λ nm x f w p h. h }
+
+-- the same on `Trees`
+pub wrapped_in : (f : Performed) {t t₁ : Trees} (t₂ : Trees) (r : Result Done Refusal) → Reads t t₁ → WrapsTo t.ws.now t.n t.state t₁.state → Operates-in f t₁ t₂ r → Operates-in (λ s. M.wrap >> f s) t t₂ r
+wrapped_in f t₂ r s k o = wrapped_then f (step_of r t₂.state) k (rw (s.slice, s.ceiling) at o)

@@ -3,78 +3,82 @@
 
 ghost use Rattle.std.specs.Prelude.{◌+◌, eqb};
 ghost use Rattle.definition.specs.Kind as K;
-ghost use Rattle.definition.specs.Node as Node;
 ghost use Rattle.definition.specs.Node.{Node, InOut, Metatype, Static, VariableInitializer};
 ghost use Rattle.definition.specs.Perform as R;
+ghost use Rattle.machine.specs.Kinds.{kind_of};
 ghost use Rattle.machine.specs.Wanted.{want_of};
-ghost use Rattle.tree_records.specs.Holds.{Ready};
-ghost use Rattle.tree_nodes.specs.Gives.{full_spare, Operates, OneChild, over};
+ghost use Rattle.tree_records.specs.Trees.{Stays, Has};
+ghost use Rattle.tree_nodes.specs.Gives.{full_spare, OneChild, over};
+ghost use Rattle.tree_nodes.specs.Trees.{Operates};
 
 use definition::Refusal;
-use machine::kinds::Want;
-use tree_nodes::{Step, WrapSpent, pop_if, push_new, wrap};
-use tree_records::{Fields, Popped, State};
+use machine::kinds::{Kind, Want};
+use tree_nodes::leave::{push_new, wrap};
+use tree_nodes::take::pop_if;
+use tree_records::{Record, Trees};
 
 // Pushes a node of a kind over the node that is wanted on top.
-pub fn one_child(ws: &mut [u32], n: usize, st: State, want: Want, kind: u32) -> Step
-    requires { Ready ws.old n st full_spare }
-    ensures { (c : Node → Node) → OneChild kind c → Operates (over (want_of want) c) ws.old ws.new n st result }
+pub fn one_child(trees: &mut Trees, want: Want, kind: Kind) -> Result<(), Refusal>
+    requires { Has trees.old full_spare }
+    ensures stays { Stays trees.old trees.new }
+    ensures operates { (c : Node → Node) → OneChild (kind_of kind) c → Operates (over (want_of want) c) trees.old trees.new result }
 {
-    match pop_if(ws, n, st, want) {
-        Popped::Place(p, u) => {
-            let size = tree_records::field(ws, p, 1);
-            let rest = Fields {
-                a: p as u32,
-                b: 0,
-                c: 0,
-                d: 0,
-                e: 0,
-            };
-            Step::Done(push_new(ws, n, u, kind, size + 1, 0, rest))
-        }
-        Popped::Nothing => Step::Refused(Refusal::Stack),
-    }
+    let place = pop_if(trees, want)?;
+    let size = trees.field(place, Record::SIZE) + 1;
+    push_new(
+        trees,
+        Record {
+            kind,
+            size,
+            a: place as u32,
+            ..Record::ZERO
+        },
+    );
+    Ok(())
 }
 
 // Counts one wrap, and pushes a node of a kind over the type on top.
-pub fn wrapped(ws: &mut [u32], n: usize, st: State, kind: u32) -> Step
-    requires { Ready ws.old n st full_spare }
-    ensures { (c : Node → Node) → OneChild kind c → Operates (λ _. R.wrapped c) ws.old ws.new n st result }
+pub fn wrapped(trees: &mut Trees, kind: Kind) -> Result<(), Refusal>
+    requires { Has trees.old full_spare }
+    ensures stays { Stays trees.old trees.new }
+    ensures operates { (c : Node → Node) → OneChild (kind_of kind) c → Operates (λ _. R.wrapped c) trees.old trees.new result }
 {
-    match wrap(st) {
-        WrapSpent::Next(u) => one_child(ws, n, u, Want::Type, kind),
-        WrapSpent::Refused => Step::Refused(Refusal::Nesting),
-    }
+    wrap(trees)?;
+    one_child(trees, Want::Type, kind)
 }
 
 // `z`: `inout T`.
-pub fn in_out(ws: &mut [u32], n: usize, st: State) -> Step
-    requires { Ready ws.old n st full_spare }
-    ensures { Operates (λ _. R.wrapped InOut) ws.old ws.new n st result }
+pub fn in_out(trees: &mut Trees) -> Result<(), Refusal>
+    requires { Has trees.old full_spare }
+    ensures stays { Stays trees.old trees.new }
+    ensures operates { Operates (λ _. R.wrapped InOut) trees.old trees.new result }
 {
-    wrapped(ws, n, st, 17)
+    wrapped(trees, Kind::InOut)
 }
 
 // `m`, `XM`, `Xp`: a type's metatype.
-pub fn metatype(ws: &mut [u32], n: usize, st: State) -> Step
-    requires { Ready ws.old n st full_spare }
-    ensures { Operates (λ _. R.wrapped Metatype) ws.old ws.new n st result }
+pub fn metatype(trees: &mut Trees) -> Result<(), Refusal>
+    requires { Has trees.old full_spare }
+    ensures stays { Stays trees.old trees.new }
+    ensures operates { Operates (λ _. R.wrapped Metatype) trees.old trees.new result }
 {
-    wrapped(ws, n, st, 16)
+    wrapped(trees, Kind::Metatype)
 }
 
 // `Z`: a static member.
-pub fn static_member(ws: &mut [u32], n: usize, st: State) -> Step
-    requires { Ready ws.old n st full_spare }
-    ensures { Operates (over K.is_entity Static) ws.old ws.new n st result }
+pub fn static_member(trees: &mut Trees) -> Result<(), Refusal>
+    requires { Has trees.old full_spare }
+    ensures stays { Stays trees.old trees.new }
+    ensures operates { Operates (over K.is_entity Static) trees.old trees.new result }
 {
-    one_child(ws, n, st, Want::Entity, 25)
+    one_child(trees, Want::Entity, Kind::Static)
 }
 
 // `fi`: the initial value of a variable.
-pub fn variable_initializer(ws: &mut [u32], n: usize, st: State) -> Step
-    requires { Ready ws.old n st full_spare }
-    ensures { Operates (over (eqb K.variable) VariableInitializer) ws.old ws.new n st result }
+pub fn variable_initializer(trees: &mut Trees) -> Result<(), Refusal>
+    requires { Has trees.old full_spare }
+    ensures stays { Stays trees.old trees.new }
+    ensures operates { Operates (over (eqb K.variable) VariableInitializer) trees.old trees.new result }
 {
-    one_child(ws, n, st, Want::Kind(20), 24)
+    one_child(trees, Want::Kind(Kind::Variable), Kind::VariableInitializer)
 }

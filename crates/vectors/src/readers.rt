@@ -7,10 +7,9 @@ ghost use Rattle.text_words.specs.Table.{Fitting};
 use super::{put, space, write};
 use definition::Refusal;
 use std::io::Stdout;
-use text_cursor::{Cursor, Number, ParamRead};
-use text_identifiers::{CountRead, NameRead};
-use text_symbols::Symbol;
-use text_utf8::IllFormed;
+use text_cursor::{Cursor, Number, ParamRead, Reader};
+use text_output::Sink;
+use text_symbols::Parts;
 use text_words::Words;
 
 fn refused(to: Stdout, f: Refusal) {
@@ -42,23 +41,23 @@ fn show_param(to: Stdout, r: ParamRead) {
     }
 }
 
-fn show_ill_formed(to: Stdout, r: IllFormed) {
+fn show_ill_formed(to: Stdout, r: Option<usize>) {
     match r {
-        IllFormed::At(i) => put(to, i),
-        IllFormed::Nowhere => {
+        Some(i) => put(to, i),
+        None => {
             write(to, b"well-formed");
         }
     }
 }
 
-fn show_symbol(to: Stdout, r: Symbol) {
+fn show_symbol(to: Stdout, r: Option<Parts>) {
     match r {
-        Symbol::Parts { start, end } => {
+        Some(Parts { start, end }) => {
             put(to, start);
             space(to);
             put(to, end);
         }
-        Symbol::Not => {
+        None => {
             write(to, b"no symbol");
         }
     }
@@ -78,16 +77,14 @@ fn identifiers(to: Stdout, text: &[u8], at: usize, w: Words)
     if text.len() <= at {
         return;
     }
-    let r = text_identifiers::identifier(text, Cursor { at }, w);
-    let read = r.read;
-    let next = r.words;
-    match read {
-        NameRead::Read(c) => {
-            let place = c.at;
-            show_place(to, place, next.count);
-            identifiers(to, text, place, next);
+    let mut reader = Reader { text, at };
+    let mut known = w;
+    match text_identifiers::identifier(&mut reader, &mut known) {
+        Ok(()) => {
+            show_place(to, reader.at, known.len());
+            identifiers(to, text, reader.at, known);
         }
-        NameRead::Refused(f) => refused(to, f),
+        Err(f) => refused(to, f),
     }
 }
 
@@ -98,13 +95,14 @@ fn counted(to: Stdout, text: &[u8], at: usize, count: usize)
     if text.len() <= at {
         return;
     }
-    match text_identifiers::identifier_count(text, Cursor { at }, count) {
-        CountRead::Read(n, c) => {
-            let place = c.at;
-            show_place(to, place, n);
-            counted(to, text, place, n);
+    let mut reader = Reader { text, at };
+    let mut known = count;
+    match text_identifiers::identifier_count(&mut reader, &mut known) {
+        Ok(()) => {
+            show_place(to, reader.at, known);
+            counted(to, text, reader.at, known);
         }
-        CountRead::Refused(f) => refused(to, f),
+        Err(f) => refused(to, f),
     }
 }
 
@@ -119,14 +117,11 @@ fn show_first(to: Stdout, bytes: &[u8], n: usize) {
 fn show_name(to: Stdout, out: &mut [u8], text: &[u8], at: usize, w: Words)
     requires { (at ≤ length text.now) × (length text.now ≤ 65535) × Fitting text.now w }
 {
-    let starts = w.starts;
-    let lengths = w.lengths;
-    put(
-        to,
-        text_spelling::name_length(text, at, &starts, &lengths, w.count),
-    );
+    put(to, text_spelling::name_length(text, at, &w));
     let room = out.len();
-    let end = text_spelling::put_name(out, 0, room, text, at, &starts, &lengths, w.count);
+    let mut sink = Sink { out, at: 0, room };
+    text_spelling::put_name(&mut sink, text, at, &w);
+    let end = sink.at;
     write(to, b"[");
     show_first(to, out, end);
     write(to, b"]");
@@ -146,16 +141,15 @@ fn spelled(to: Stdout, text: &[u8], at: usize, w: Words)
     if text.len() <= at {
         return;
     }
-    let r = text_identifiers::identifier(text, Cursor { at }, w);
-    let read = r.read;
-    let next = r.words;
-    match read {
-        NameRead::Read(c) => {
+    let mut reader = Reader { text, at };
+    let mut known = w;
+    match text_identifiers::identifier(&mut reader, &mut known) {
+        Ok(()) => {
             let mut out = name_room();
-            show_name(to, &mut out, text, at, next);
-            spelled(to, text, c.at, next);
+            show_name(to, &mut out, text, at, known);
+            spelled(to, text, reader.at, known);
         }
-        NameRead::Refused(f) => refused(to, f),
+        Err(f) => refused(to, f),
     }
 }
 
@@ -165,8 +159,8 @@ fn run_words(to: Stdout, c: u8, text: &[u8]) {
         return;
     }
     match text_utf8::ill_formed(text) {
-        IllFormed::At(_) => refused(to, Refusal::Encoding),
-        IllFormed::Nowhere => match c {
+        Some(_) => refused(to, Refusal::Encoding),
+        None => match c {
             b'w' => identifiers(to, text, 0, Words::new()),
             b'p' => spelled(to, text, 0, Words::new()),
             _ => counted(to, text, 0, 0),

@@ -1,4 +1,4 @@
-use mathlib.Core.Path.{ap, refl}
+use mathlib.Core.Path.{refl}
 use native.Mathlib.Omega.{arith}
 use Rattle.definition.specs.Enums.{number, values}
 use Rattle.definition.specs.Calls.{refusal}
@@ -6,9 +6,6 @@ use Rattle.call_endings.proofs.Ends.{counted}
 use borrow.Author.Rules.{rules}
 use Rattle.call_endings.proofs.measured.Statement.{statement}
 use Rattle.call_endings.proofs.measured.Tie as tie
-use Rattle.call_endings.proofs.measured.Reads as reads
-use Rattle.call_endings.proofs.measured.Lts as lts
-use Rattle.call_endings.proofs.counts.Reads as counts-reads
 
 -- src/lib.rt:26:9
 returns : tie.Need-returns-then-room-n

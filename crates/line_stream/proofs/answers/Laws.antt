@@ -2,7 +2,7 @@
 use mathlib.Core.Path.{◌≡◌, refl, sym, ap, subst, ◌∙◌}
 use mathlib.Core.Bool.{false}
 use mathlib.Core.List.{List, [], ◌∷◌, ◌++◌, append_assoc, append-nil}
-use Prim.Native.Nat.{ℕ, ◌+◌, ◌-◌, ◌≤◌, ◌<◌}
+use Prim.Native.Nat.{ℕ, ◌+◌, ◌-◌, ◌≤◌, ◌<◌, ◌^◌}
 use native.Mathlib.Omega.{arith}
 use borrow.Author.Tests.{lt-leb, le-leb}
 use borrow.Rule.Slice.PartMut.{put_mid, Post-is}
@@ -19,17 +19,24 @@ use Rattle.definition.specs.declared.Answer.{Answer}
 use Rattle.definition.specs.declared.Answer.TheVariants.{Accepted, Refused}
 use Rattle.definition.specs.Check as Check
 use Rattle.definition.specs.Reading as Reading
-use Rattle.call_endings.specs.Answers.{Answers}
+use Rattle.call_endings.specs.Answers as Ends
 use Rattle.text_output.specs.Sink.{Room, Wrote, wrote_in, wrote_then}
+use Rattle.text_output.specs.Appends.{Appended}
+use Rattle.text_output.specs.declared.Sink.{Sink}
 use Rattle.line_forms.specs.Appends.{longest, Space, Appends}
 use Rattle.line_forms.specs.Lines.{refused_line, accepted_line, counts_told, line_answer, name_answer, shape_answer, read_line, name_line, shape_line, line_of}
 use Rattle.line_forms.specs.declared.Asked.{Asked}
 use Rattle.line_forms.proofs.Laws.{appended, appends_is}
-use Rattle.line_forms.proofs.Sizes.{refused_long}
-use Rattle.line_stream.specs.Does.{Reads}
+use Rattle.line_forms.proofs.Sizes.{refused_long, refused_short}
+use Rattle.line_stream.specs.Does.{Whole, Same, Reads, Answers}
 use Rattle.line_stream.proofs.answers.Sizes.{Fits, demangle_fits}
 
 -- THE ANSWER OF A CALL
+-- with what it writes from `at` on
+pub record ReadsAt (a : Calls.Answer) (o o' : List ℕ) (at : ℕ) (r : Answer) : Type 0 where
+  pub values : values r ≡ a.values
+  pub written : o' ≡ take at o ++ a.written ++ drop (at + length a.written) o
+
 -- no refusal has the number 0
 refused_number : (f : Refusal) → eqb (number f) 0 ≡ false
 unfolding number
@@ -55,18 +62,18 @@ unfolding line_answer values
 answer_refused f p told = rw (refused_number f)
 
 -- SHAPES
-module _ {o o' : List ℕ} {at e : ℕ} {r : Answer} {v : Values} (is : values r ≡ v) where
-  pub shape_accepted : {c : Counts} {n : ℕ} → r ≡ Accepted c n → Appends o o' at (accepted_line (counts_told c.steps c.total c.wraps)) e → Appends o o' at (shape_answer v) e
+module _ {r : Answer} {v : Values} (is : values r ≡ v) where
+  pub shape_accepted : {c : Counts} {n : ℕ} → r ≡ Accepted c n → accepted_line (counts_told c.steps c.total c.wraps) ≡ shape_answer v
   unfolding shape_answer values
-  shape_accepted {c} {n} q a =
+  shape_accepted {c} {n} q =
       let s : accepted_line (counts_told c.steps c.total c.wraps) ≡ shape_answer (values (Accepted c n)) = sym (answer_accepted c n (counts_told c.steps c.total c.wraps)) in
-      appends_is (s ∙ ap (λ (x : Answer). shape_answer (values x)) (sym q) ∙ ap shape_answer is) a
+      s ∙ ap (λ (x : Answer). shape_answer (values x)) (sym q) ∙ ap shape_answer is
 
-  pub shape_refused : {f : Refusal} {p k : ℕ} → r ≡ Refused f p → k ≡ number f → Appends o o' at (refused_line k p) e → Appends o o' at (shape_answer v) e
+  pub shape_refused : {f : Refusal} {p k : ℕ} → r ≡ Refused f p → k ≡ number f → refused_line k p ≡ shape_answer v
   unfolding shape_answer
-  shape_refused {f} {p} q j a =
+  shape_refused {f} {p} q j =
       let s : refused_line (number f) p ≡ shape_answer (values (Refused f p)) = sym (answer_refused f p _) in
-      appends_is (ap (λ (x : ℕ). refused_line x p) j ∙ s ∙ ap (λ (x : Answer). shape_answer (values x)) (sym q) ∙ ap shape_answer is) a
+      ap (λ (x : ℕ). refused_line x p) j ∙ s ∙ ap (λ (x : Answer). shape_answer (values x)) (sym q) ∙ ap shape_answer is
 
 -- NAMES
 -- what overwrites bytes that end before it does
@@ -104,7 +111,7 @@ module _ {o o₁ o₂ : List ℕ} {at m from : ℕ} (h : Space o at) (w : Wrote 
   pub read_room : (at + 2 + 16384 ≤ length o₂)
   read_room = omega (arith, h.room, w.len, x.len)
 
-  module _ {o₃ : List ℕ} {r : Answer} (a : Calls.Answer) (y : Reads a o₂ o₃ from r) (f : Fits 16384 a) where
+  module _ {o₃ : List ℕ} {r : Answer} (a : Calls.Answer) (y : ReadsAt a o₂ o₃ from r) (f : Fits 16384 a) where
     long : length o₃ ≡ length o₂
     long =
         let l : length o₃ ≡ length (take from o₂ ++ a.written ++ drop (from + length a.written) o₂) = ap length y.written in
@@ -149,6 +156,66 @@ module _ {o o₁ o₂ : List ℕ} {at m from : ℕ} (h : Space o at) (w : Wrote 
         let t : refused_line k p ≡ name_answer a = ap (λ (u : ℕ). refused_line u p) j ∙ sym (answer_refused g p (9 ∷ a.written)) ∙ ap (λ (u : Answer). line_answer (values u) (9 ∷ a.written)) (sym q) ∙ ap (λ (u : Values). line_answer u (9 ∷ a.written)) y.values in
         appends_is t (record { wrote = v; inside = e≤ })
 
+-- the same over sinks
+pub wrote_of : {R R' at at' e : ℕ} {o o₁ o' s : List ℕ} → R ≡ R' → o ≡ o₁ → at ≡ at' → Wrote R o o' at s e → Wrote R' o₁ o' at' s e
+wrote_of {R} {R'} {at} {at'} {e} {o} {o₁} {o'} {s} p q r w =
+    subst (λ (n : ℕ). Wrote R' o₁ o' n s e) r (subst (λ (u : List ℕ). Wrote R' u o' at s e) q (subst (λ (n : ℕ). Wrote n o o' at s e) p w))
+
+-- what is appended to a whole sink, if it is a line
+pub answers_of : {s s' : Sink} {l : List ℕ} → Whole s × Space s.out.now s.at → length l ≤ longest → Appended s s' l → Answers s s' l
+answers_of {s} {s'} {l} (w, h) k a = record { same = record { slice = a.same; room = a.room }; appends = appended h k (wrote_of w refl refl a.wrote) }
+
+pub answers_is : {s s' : Sink} {l l' : List ℕ} → l ≡ l' → Answers s s' l → Answers s s' l'
+answers_is e a = record { same = a.same; appends = appends_is e a.appends }
+
+-- the same slice, at another place
+pub record Put (s s' : Sink) (place : ℕ) : Type 0 where
+  pub same : Same s s'
+  pub now : s'.out.now ≡ s.out.now
+  pub at : s'.at ≡ place
+
+module _ {s s₁ s₂ s₃ : Sink} (b : Whole s × Space s.out.now s.at) (w : Appended s s₁ (61 ∷ [])) (x : Appended s₁ s₂ (9 ∷ [])) {r : Answer} (a : Calls.Answer) (y : Reads a s₂ s₃ r) (f : Fits 16384 a) where
+  first : Wrote (length s.out.now) s.out.now s₁.out.now s.at (61 ∷ []) s₁.at
+  first = wrote_of b.0 refl refl w.wrote
+
+  second : Wrote (length s.out.now) s₁.out.now s₂.out.now s₁.at (9 ∷ []) s₂.at
+  second = wrote_of (w.room ∙ b.0) refl refl x.wrote
+
+  called : ReadsAt a s₂.out.now s₃.out.now s₂.at r
+  called = record { values = y.values; written = y.written }
+
+  room_is : s₃.room ≡ length s.out.now
+  room_is = y.same.room ∙ x.room ∙ w.room ∙ b.0
+
+  slice_is : s₃.out.ghost_name ≡ s.out.ghost_name
+  slice_is = y.same.slice ∙ x.same ∙ w.same
+
+  pub room_after : {c : Counts} {n : ℕ} → r ≡ Accepted c n → Room s₃.room s₃.out.now (s₃.at + n)
+  room_after {c} {n} q =
+      let h : Room (length s.out.now) s₃.out.now (s₂.at + n) = line_room b.1 first second a called f q in
+      subst (λ (k : ℕ). Room s₃.room s₃.out.now (k + n)) (sym y.at) (subst (λ (k : ℕ). Room k s₃.out.now (s₂.at + n)) (sym room_is) h)
+
+  pub room_before : Room s₃.room s₃.out.now s.at
+  room_before = record { past = omega (arith, room_is, b.1.room); short = omega (arith, room_is, still b.1 first second a called f); small = omega (arith, room_is, b.1.small) }
+
+  pub sink_accepted : {s₄ s₅ : Sink} {c : Counts} {n : ℕ} → r ≡ Accepted c n → Put s₃ s₄ (s₃.at + n) → Appended s₄ s₅ (10 ∷ []) → Answers s s₅ (name_answer a)
+  sink_accepted {s₄} {s₅} {c} {n} q p k =
+      let z : Wrote (length s.out.now) s₃.out.now s₅.out.now (s₂.at + n) (10 ∷ []) s₅.at = wrote_of (p.same.room ∙ room_is) p.now (p.at ∙ ap (λ (m : ℕ). m + n) y.at) k.wrote in
+      record {
+        same = record { slice = k.same ∙ p.same.slice ∙ slice_is; room = k.room ∙ p.same.room ∙ y.same.room ∙ x.room ∙ w.room };
+        appends = name_accepted b.1 first second a called f q z;
+      }
+
+  pub sink_refused : {s₄ s₅ : Sink} {g : Refusal} {m k : ℕ} → r ≡ Refused g m → k ≡ number g → k < 2 ^ 64 → m < 2 ^ 64 → Put s₃ s₄ s.at → Appended s₄ s₅ (refused_line k m) → Answers s s₅ (name_answer a)
+  sink_refused {s₄} {s₅} {g} {m} {k} q j u v p h =
+      let l : length s₃.out.now ≡ length s.out.now = still b.1 first second a called f in
+      let z : Wrote (length s₃.out.now) s₃.out.now s₅.out.now s.at (refused_line k m) s₅.at = wrote_of (p.same.room ∙ room_is ∙ sym l) p.now p.at h.wrote in
+      let e : s₅.at ≤ length s₃.out.now = omega (arith, z.count, refused_short k m u v, b.1.room, l) in
+      record {
+        same = record { slice = h.same ∙ p.same.slice ∙ slice_is; room = h.room ∙ p.same.room ∙ y.same.room ∙ x.room ∙ w.room };
+        appends = name_refused b.1 first second a called f q j (record { wrote = z; inside = e });
+      }
+
 -- a call on a part of the slice
 rest_of : (m n : ℕ) (l : List ℕ) → m ≤ n → n ≤ length l → drop m (take n l) ++ drop n l ≡ drop m l
 rest_of m n l h k =
@@ -156,7 +223,7 @@ rest_of m n l h k =
     sym (drop-append-le m (take n l) (drop n l) i) ∙ ap (drop m) (take-append-drop n l)
 
 module _ {o p p' o' : List ℕ} {at n : ℕ} (a : Calls.Answer) {r : Answer} where
-  pub part_reads : at + n ≤ length o → p ≡ take n (drop at o) → Fits n a → Answers a p p' r → o' ≡ take at o ++ p' ++ drop (at + n) o → Reads a o o' at r
+  pub part_reads : at + n ≤ length o → p ≡ take n (drop at o) → Fits n a → Ends.Answers a p p' r → o' ≡ take at o ++ p' ++ drop (at + n) o → ReadsAt a o o' at r
   part_reads h q f x e =
       let k : n ≤ length (drop at o) = omega (arith, length-drop at o) in
       let m : ℕ = length a.written in
@@ -176,13 +243,13 @@ put_back o p' at =
     ap (λ (u : List ℕ). take at o ++ (p' ++ u)) (Post-is at (at + 16384) o h) ∙ sym (append_assoc (take at o) p' (drop (at + 16384) o))
 
 -- the call that is made
-pub read_part : {o p p' o' : List ℕ} {at w : ℕ} {r : Answer} (t : Text) → at + 16384 ≤ length o → w ≡ 16384 → p ≡ take ((at + 16384) - at) (drop at o) → Answers (Reading.demangle t 256 w (length p)) p p' r → o' ≡ take at o ++ p' ++ drop (at + 16384) o →
-    Reads (Reading.demangle t 256 16384 16384) o o' at r
+pub read_part : {o p p' o' : List ℕ} {at w : ℕ} {r : Answer} (t : Text) → at + 16384 ≤ length o → w ≡ 16384 → p ≡ take ((at + 16384) - at) (drop at o) → Ends.Answers (Reading.demangle t 256 w (length p)) p p' r → o' ≡ take at o ++ p' ++ drop (at + 16384) o →
+    ReadsAt (Reading.demangle t 256 16384 16384) o o' at r
 read_part {o} {p} {p'} {o'} {at} {w} {r} t h k q x e =
     let n : (at + 16384) - at ≡ 16384 = omega arith in
     let q₁ : p ≡ take 16384 (drop at o) = q ∙ ap (λ (m : ℕ). take m (drop at o)) n in
     let l : length p ≡ 16384 = ap length q₁ ∙ length-take-le 16384 (drop at o) (omega (arith, length-drop at o)) in
-    let y : Answers (Reading.demangle t 256 16384 16384) p p' r = subst (λ (m : ℕ). Answers (Reading.demangle t 256 16384 m) p p' r) l (subst (λ (m : ℕ). Answers (Reading.demangle t 256 m (length p)) p p' r) k x) in
+    let y : Ends.Answers (Reading.demangle t 256 16384 16384) p p' r = subst (λ (m : ℕ). Ends.Answers (Reading.demangle t 256 16384 m) p p' r) l (subst (λ (m : ℕ). Ends.Answers (Reading.demangle t 256 m (length p)) p p' r) k x) in
     part_reads (Reading.demangle t 256 16384 16384) h q₁ (demangle_fits t 256 16384 16384) y e
 
 pub shape_is : {w : ℕ} (r : Answer) (t : Text) → w ≡ 16384 → values r ≡ (Check.shape t 256 w).values → values r ≡ (Check.shape t 256 16384).values

@@ -1,35 +1,39 @@
 -- The lines of a buffer, one after another. Assumes nothing.
-use mathlib.Core.Path.{◌≡◌, sym, ap, subst, ◌∙◌}
+use mathlib.Core.Path.{◌≡◌, refl, sym, ap, ◌∙◌}
 use mathlib.Core.List.{List, [], ◌∷◌, ◌++◌, append_assoc, append-nil}
-use Prim.Native.Nat.{ℕ, ◌+◌, ◌-◌, ◌≤◌, ◌<◌, ◌^◌}
+use Prim.Native.Nat.{ℕ, ◌+◌, ◌-◌, ◌≤◌, ◌<◌}
 use native.Mathlib.Omega.{arith}
 use native.Mathlib.Numerals.{add-one}
 use lib.ListN.{length, get_or, take, drop, length-take}
 use lib.Seq.{take-suc, take-add, get_or-take, get_or-drop}
 use Rattle.definition.specs.Text.{Text}
 use Rattle.text_output.specs.Sink.{Wrote, wrote_nothing, wrote_is, wrote_then, part}
+use Rattle.text_output.specs.declared.Sink.{Sink}
 use Rattle.line_forms.specs.LineEnds.{newline, Ends}
 use Rattle.line_forms.specs.Appends.{longest, Space, Appends}
 use Rattle.line_forms.specs.Lines.{answers}
 use Rattle.line_forms.proofs.Inputs.{one_line, nothing_left}
-use Rattle.line_stream.specs.Does.{Answered}
+use Rattle.line_stream.specs.Does.{Whole, Same, Answers, Answered}
+use Rattle.line_stream.proofs.answers.Laws.{wrote_of}
 
 -- ANSWERS
 module _ (line : Text → List ℕ) where
   -- THE LOOP: the lines before `read` are answered
-  pub record Going (t : Text) (o₀ o : List ℕ) (read written : ℕ) : Type 0 where
+  pub record Going (t : Text) (s₀ s : Sink) (read : ℕ) : Type 0 where
+    pub same : Same s₀ s
     pub inside : read ≤ length t
-    pub appends : Appends o₀ o 0 (answers line (take read t)) written
+    pub appends : Appends s₀.out.now s.out.now 0 (answers line (take read t)) s.at
     pub whole : (u : Text) → answers line (take read t ++ u) ≡ answers line (take read t) ++ answers line u
 
-  pub going_start : (t : Text) (o : List ℕ) → length o < 2 ^ 63 → Going t o o 0 0
-  going_start t o h = record {
+  pub going_start : (t : Text) (s : Sink) → Whole s × (s.at ≡ 0) → Going t s s 0
+  going_start t s (w, z) = record {
+    same = record { slice = refl; room = refl };
     inside = omega arith;
-    appends = record { wrote = wrote_is (sym (nothing_left line)) (wrote_nothing (record { past = omega arith; short = omega arith; small = h })); inside = omega arith };
+    appends = record { wrote = wrote_is (sym (nothing_left line)) (wrote_of w refl z (wrote_nothing s.fits)); inside = omega (arith, z) };
     whole = λ u. ap (λ (x : List ℕ). x ++ answers line u) (sym (nothing_left line));
   }
 
-  module _ {t : Text} {o₀ o : List ℕ} {read written end : ℕ} (g : Going t o₀ o read written) (e : Ends t read end) (more : end < length t) where
+  module _ {t : Text} {s₀ s : Sink} {read end : ℕ} (g : Going t s₀ s read) (e : Ends t read end) (more : end < length t) where
     line_clear : (i : ℕ) → i < length (part t read end) → get_or (part t read end) i 0 ≡ newline → ⊥
     line_clear i h q =
         let k : i < end - read = omega (arith, length-take (end - read) (drop read t)) in
@@ -51,20 +55,21 @@ module _ (line : Text → List ℕ) where
     said : answers line (take (end + 1) t) ≡ answers line (take read t) ++ line (part t read end)
     said = ap (answers line) (sym (append-nil (take (end + 1) t))) ∙ onward [] ∙ ap (λ (x : List ℕ). (answers line (take read t) ++ line (part t read end)) ++ x) (nothing_left line) ∙ append-nil (answers line (take read t) ++ line (part t read end))
 
-    pub going_next : {o' : List ℕ} {r : ℕ} → Appends o o' written (line (part t read end)) r → Going t o₀ o' (end + 1) r
-    going_next {o'} {r} a =
-        let lo : length o ≡ length o₀ = g.appends.wrote.len in
-        let w : Wrote (length o₀) o o' written (line (part t read end)) r = subst (λ (n : ℕ). Wrote n o o' written (line (part t read end)) r) lo a.wrote in
+    pub going_next : {s' : Sink} → Answers s s' (line (part t read end)) → Going t s₀ s' (end + 1)
+    going_next {s'} a =
+        let w : Wrote (length s₀.out.now) s.out.now s'.out.now s.at (line (part t read end)) s'.at = wrote_of g.appends.wrote.len refl refl a.appends.wrote in
         record {
+          same = record { slice = a.same.slice ∙ g.same.slice; room = a.same.room ∙ g.same.room };
           inside = omega arith;
-          appends = record { wrote = wrote_is (sym said) (wrote_then g.appends.wrote w); inside = omega (arith, a.inside) };
+          appends = record { wrote = wrote_is (sym said) (wrote_then g.appends.wrote w); inside = omega (arith, a.appends.inside, g.appends.wrote.len) };
           whole = λ u. onward u ∙ ap (λ (x : List ℕ). x ++ answers line u) (sym said);
         }
 
-  module _ {t : Text} {o₀ o : List ℕ} {read written : ℕ} (g : Going t o₀ o read written) where
+  module _ {t : Text} {s₀ s : Sink} {read : ℕ} (g : Going t s₀ s read) where
     -- no further line has a newline
-    pub answered_all : {end : ℕ} → Ends t read end → end ≡ length t → Answered line t o₀ o (record { read = read; written = written })
+    pub answered_all : {end : ℕ} → Ends t read end → end ≡ length t → Answered line t s₀ s read
     answered_all {end} e q = record {
+      same = g.same;
       inside = g.inside;
       appends = g.appends;
       whole = g.whole;
@@ -72,13 +77,14 @@ module _ (line : Text → List ℕ) where
     }
 
     -- there is no room for a further answer
-    pub answered_full : length o < written + longest → Answered line t o₀ o (record { read = read; written = written })
+    pub answered_full : length s.out.now < s.at + longest → Answered line t s₀ s read
     answered_full h = record {
+      same = g.same;
       inside = g.inside;
       appends = g.appends;
       whole = g.whole;
       all = λ k i a b. absurd (omega (arith, g.appends.wrote.len));
     }
 
-    pub space : written + longest ≤ length o → length o₀ < 2 ^ 63 → Space o written
-    space h k = record { room = h; small = omega (arith, g.appends.wrote.len) }
+    pub space : Whole s₀ → s.at + longest ≤ length s.out.now → Whole s × Space s.out.now s.at
+    space w h = (g.same.room ∙ w ∙ sym g.appends.wrote.len, record { room = h; small = omega (arith, s.fits.small, s.fits.short) })

@@ -1,31 +1,13 @@
 -- The counts after `r`, at a place of a text. Assumes nothing.
 use Rattle.std.specs.Prelude.{if◌then◌else◌}
-use mathlib.Core.Path.{◌≡◌, refl, ap, subst, ◌∙◌}
+use mathlib.Core.Path.{◌≡◌, refl, ap, ◌∙◌}
 use mathlib.Core.Bool.{Bool, true, false}
 use mathlib.Core.Option.{Option, some, none}
-use Prim.Native.Nat.{ℕ, suc, ◌+◌, ◌^◌, ◌≤◌, ◌<◌}
-use lib.ListN.{length, drop}
+use Prim.Native.Nat.{ℕ, suc}
 use Rattle.definition.specs.Base.{Out, ok, refused, is, and_then, ret}
 use Rattle.definition.specs.Text.{Text, Lex, next_if, index_plus_one}
-use Rattle.definition.specs.Budget.{most_wraps}
-use Rattle.definition.specs.Operators.{counts}
-use Rattle.definition.specs.Enums.{number}
-use Rattle.definition.specs.declared.Refusal.{Refusal}
-use Rattle.text_cursor.specs.declared.Cursor.{Cursor}
-use Rattle.operator_operands.specs.Counts.{next_count, count_unless, count, Turned, Counted}
-use Rattle.operator_operands.specs.OperatorReads.{Stands}
-use Rattle.operator_operands.specs.declared.signatures.CountRead.{CountRead}
-use Rattle.operator_operands.specs.declared.signatures.CountRead.TheVariants as CountRead
-
-module _ (text : Text) (from : ℕ) where
-  pub count_closed : {o : Out Text (Option ℕ)} {r : CountRead} {c : Cursor} → r ≡ CountRead.Closed c → Turned o text from r → Stands o none text (from + 1) c
-  count_closed {o} e h = subst (Turned o text from) e h
-
-  pub count_more : {o : Out Text (Option ℕ)} {r : CountRead} {n : ℕ} {c : Cursor} → r ≡ CountRead.Count n c → Turned o text from r → Counted o n text (from + 1) c
-  count_more {o} e h = subst (Turned o text from) e h
-
-  pub count_refused : {f : Refusal} {o : Out Text (Option ℕ)} {r : CountRead} → r ≡ CountRead.Refused f → Turned o text from r → o ≡ refused (number f)
-  count_refused {o = o} e h = subst (Turned o text from) e h
+use Rattle.definition.specs.Operators.{Operator, generic_signature, counts}
+use Rattle.operator_operands.specs.Counts.{next_count, count_unless, count}
 
 -- `r`
 module _ (t : Text) {u : Text} where
@@ -90,10 +72,6 @@ module _ (params : ℕ) (t : Text) {u : Text} where
   unfolding counts
   counts_deep e = rw e
 
--- the loop of `generic_signature`: what is left to count
-pub record Counting (text : Text) (from at params left : ℕ) : Type 0 where
-  pub small : params < 2 ^ 64
-  pub inside : at ≤ length text
-  pub onward : from ≤ at
-  pub few : left ≤ most_wraps
-  pub same : counts most_wraps 0 (drop from text) ≡ counts left params (drop at text)
+-- the operator with these counts
+abbrev pub signed : ℕ → Lex Operator
+signed n t = ok (generic_signature n) t

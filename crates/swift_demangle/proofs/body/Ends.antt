@@ -31,18 +31,17 @@ use Rattle.tree_records.specs.Lies.{Lies}
 use Rattle.tree_records.specs.declared.State.{State}
 use Rattle.tree_run.specs.Runs as R
 use Rattle.tree_ends.specs.Ends as E
-use Rattle.tree_ends.specs.declared.Sole as Sole-end
-use Rattle.tree_ends.specs.declared.Sole.TheVariants as Sole
 use Rattle.tree_run.specs.declared.Ended as Read
 use Rattle.tree_run.specs.declared.Ended.TheVariants as Ended
 use Rattle.machine.specs.RunEnds.{kinds_of, Writing}
 use Rattle.machine.specs.declared.runs.Final.{Final}
-use Rattle.machine.specs.declared.runs.Written.{Written}
+use Rattle.std.specs.Prelude as Lib
 use Rattle.print_tree.specs.Prints.{Shown, Rendered}
+use Rattle.print_names.specs.declared.Source.{Source}
 use Rattle.print_labels.specs.RowTexts.{World, Prints}
 use Rattle.text_symbols.specs.Symbol as Symbols
 use Rattle.text_words.specs.Table.{table}
-use Rattle.text_words.specs.declared.Words.{Words}
+use Rattle.text_words.specs.Table.{Words}
 use Rattle.tree_run.proofs.turns.MoreWords.{lies_more}
 use Rattle.definition.proofs.WordsAdded.{begins_refl}
 use Rattle.swift_demangle.specs.Body.{Held, Finishes}
@@ -66,19 +65,13 @@ module _ (what : Final) (body suffix : Text) (end : ℕ) (words : Words) (w : Li
   printed : (x : Node) {p : ℕ} (all : List Name) → Lies (Named (with_all all)) x w p → Prints (naming body words) w p (print x)
   printed x {p} all l = record { tree = x; lies = lies_more body (noted (table body words) all) (noted (table body words) (table body words)) (begins_refl (table body words)) x w p l; is = refl }
 
-  -- what the printer requires of the tree that is left
-  pub left_world : (p : ℕ) → Held body words w N st → E.Singles w N st what (Sole.At p) → World body words w p
-  left_world p h s =
-      let a = s (with_all h.all) h.machine h.holds in
-      record { known = h.known; long = omega (arith, a.below, h.holds.room, h.holds.charged, h.holds.long) }
-
-  pub left_prints : (p : ℕ) → Held body words w N st → E.Singles w N st what (Sole.At p) → Some (Prints (naming body words) w p)
+  pub left_prints : (p : ℕ) → Held body words w N st → E.Singles w N st what (Lib.Some p) → Some (Prints (naming body words) w p)
   left_prints p h s =
       let a = s (with_all h.all) h.machine h.holds in
       record { text = print a.tree; is = printed a.tree h.all a.lies }
 
   -- its text
-  pub finishes_at : (p n : ℕ) (out out' : List ℕ) (r : Answer) → E.Singles w N st what (Sole.At p) → Rendered (naming body words) w p suffix out out' n → Measured (budget_of st.budget) n (length out) r →
+  pub finishes_at : (p n : ℕ) (out out' : List ℕ) (r : Answer) → E.Singles w N st what (Lib.Some p) → Rendered (naming body words) w p suffix out out' n → Measured (budget_of st.budget) n (length out) r →
       Finishes what body suffix end words w N st out out' r
   unfolding finished
   finishes_at p n out out' r s d m = record {
@@ -91,7 +84,7 @@ module _ (what : Final) (body suffix : Text) (end : ℕ) (words : Words) (w : Li
         (shown_answers mach.budget (print a.tree ++ suffix_text sym₁.suffix) out out' r n shown₁ m₁);
   }
 
-  pub finishes_not : (out : List ℕ) → E.Singles w N st what Sole.Nothing → Finishes what body suffix end words w N st out out (Answer.Refused Refusal.Leftover end)
+  pub finishes_not : (out : List ℕ) → E.Singles w N st what Lib.None → Finishes what body suffix end words w N st out out (Answer.Refused Refusal.Leftover end)
   unfolding finished number
   finishes_not out s = record {
     each = λ sym₁ mach all e q h.
@@ -99,13 +92,19 @@ module _ (what : Final) (body suffix : Text) (end : ℕ) (words : Words) (w : Li
         ∙ ap (λ (k : ℕ). within (length out) (refusal 11 k)) e) (refused_answers out Refusal.Leftover end);
   }
 
+-- what the printer requires of the tree that is left
+pub left_world : (s : Source) (what : Final) (N : ℕ) (st : State) (p : ℕ) → Held s.text.now s.words.now s.ws.now N st → E.Singles s.ws.now N st what (Lib.Some p) → World s p
+left_world s what N st p h e =
+    let a = e (names_of s.text.now (noted (table s.text.now s.words.now) h.all)) h.machine h.holds in
+    record { known = record { short = h.short; fitting = h.fitting }; long = omega (arith, a.below, h.holds.room, h.holds.charged, h.holds.long) }
+
 module _ (text : Text) (start end N : ℕ) (w w' : List ℕ) (words : Words) where
   abbrev body : Text
   body = take (end - start) (drop start text)
 
   -- a run that ended
   pub ran_held : (k : ℕ) (st : State) → length text ≤ 65535 → R.Ran N k body w w' words st → Held body words w' N st
-  ran_held k st h r = record { known = record { short = body_short text start end h; fitting = r.fitting }; machine = r.machine; all = r.all; holds = r.holds }
+  ran_held k st h r = record { short = body_short text start end h; fitting = r.fitting; machine = r.machine; all = r.all; holds = r.holds }
 
   pub ran_ready : (k : ℕ) (st : State) → R.Ran N k body w w' words st → Ready w' N st nothing_spare
   ran_ready k st r = record { names = names_of body (noted (table body words) r.all); machine = r.machine; holds = r.holds }
@@ -125,7 +124,7 @@ module _ (text : Text) (start end N : ℕ) (w w' : List ℕ) (words : Words) whe
       (refused_answers out x (start + at))
 
   -- stopped after k operators
-  pub read_k_ran : (k : ℕ) (st : State) (out out' : List ℕ) (v : Written) (r : Answer) → R.Ran N k body w w' words st →
+  pub read_k_ran : (k : ℕ) (st : State) (out out' : List ℕ) (v : Lib.Option ℕ) (r : Answer) → R.Ran N k body w w' words st →
       ((nm : Names) (m : Demangler) → Holds nm w' N st nothing_spare m → Writing (entry_numbers (map entry_of (reverse m.stack))) out out' v) → Stacked (budget_of st.budget) v r →
       Answers (within (length out) (Reading.stopped_after N k (Symbols.symbol text start end))) out out' r
   unfolding Reading.stopped_after
@@ -149,8 +148,8 @@ module _ {N k : ℕ} {body : Text} {w w' : List ℕ} where
   was_stopped words e q h = subst (R.Ending N k body w w' words) q h
 
 module _ {w : List ℕ} {N : ℕ} {st : State} (what : Final) where
-  pub was_at : (l : Sole-end.Sole) {p : ℕ} → l ≡ Sole.At p → E.Singles w N st what l → E.Singles w N st what (Sole.At p)
+  pub was_at : (l : Lib.Option ℕ) {p : ℕ} → l ≡ Lib.Some p → E.Singles w N st what l → E.Singles w N st what (Lib.Some p)
   was_at l q h = subst (E.Singles w N st what) q h
 
-  pub was_nothing : (l : Sole-end.Sole) → l ≡ Sole.Nothing → E.Singles w N st what l → E.Singles w N st what Sole.Nothing
+  pub was_nothing : (l : Lib.Option ℕ) → l ≡ Lib.None → E.Singles w N st what l → E.Singles w N st what Lib.None
   was_nothing l q h = subst (E.Singles w N st what) q h

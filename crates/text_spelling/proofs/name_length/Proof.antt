@@ -3,7 +3,7 @@ use Prim.Native.Nat.{◌+◌, ◌-◌}
 use native.Mathlib.Omega.{arith}
 use lib.ListN.{length, drop}
 use borrow.Author.Rules.{rules}
-use Rattle.text_words.specs.Table.{table, lent}
+use Rattle.text_words.specs.Table.{table}
 use Rattle.text_spelling.specs.Segments.{segment_of}
 use Rattle.text_spelling.specs.SegmentsRead.{Taken}
 use Rattle.text_spelling.proofs.Loops.{taken_part, taken_end, Counting, counting_first, counting_next, counting_end}
@@ -11,20 +11,20 @@ use Rattle.text_spelling.proofs.name_length.Statement.{statement}
 use Rattle.text_spelling.proofs.name_length.Tie as tie
 
 abbrev invariant-loop : tie.invariant-loop-from
-invariant-loop text p starts lengths known s₀ sum₀ s sum = Counting text (lent starts lengths known) p s sum
+invariant-loop text p known s₀ sum₀ s sum = Counting text known p s sum
 
 abbrev decreases-loop : tie.decreases-loop-from
-decreases-loop text p starts lengths known s₀ sum₀ s sum = length text - s.at
+decreases-loop text p known s₀ sum₀ s sum = length text - s.at
 
 -- the segment that the match took apart
-taken : (c : tie.In-Part invariant-loop decreases-loop) → Taken (segment_of (table c.args.text.now (lent c.args.starts.now c.args.lengths.now c.args.known)) c.loop-from.s.more c.loop-from.s.punycoded (drop c.loop-from.s.at c.args.text.now)) c.args.text.now (c.loop-from.s.at + 1) c.loop-from.s.punycoded c.in-Part.from c.in-Part.to c.in-Part.next
+taken : (c : tie.In-Part invariant-loop decreases-loop) → Taken (segment_of (table c.args.text.now c.args.known.now) c.loop-from.s.more c.loop-from.s.punycoded (drop c.loop-from.s.at c.args.text.now)) c.args.text.now (c.loop-from.s.at + 1) c.loop-from.s.punycoded c.in-Part.from c.in-Part.to c.in-Part.next
 taken c = taken_part c.args.text.now (c.loop-from.s.at + 1) c.loop-from.s.punycoded c.in-Part.is c.next_segment.ensures
 
 first-requires : tie.Need-first-s-requires invariant-loop decreases-loop
 first-requires c κs = search rules
 
 loop-holds : tie.Need-loop-from-init invariant-loop decreases-loop
-loop-holds c = counting_first c.args.text.now (lent c.args.starts.now c.args.lengths.now c.args.known) c.args.p c.first-s.ensures
+loop-holds c = counting_first c.args.text.now c.args.known.now c.args.p c.first-s.ensures
 
 next-segment-requires : tie.Need-next_segment-requires invariant-loop decreases-loop
 next-segment-requires c κs = (c.loop-from.invariant.inside, c.requires.1.1)
@@ -46,14 +46,14 @@ loop-less c =
     omega (arith, t.onward, t.within)
 
 loop-again : tie.Need-loop-from-preserved invariant-loop decreases-loop
-loop-again c = counting_next c.args.text.now (lent c.args.starts.now c.args.lengths.now c.args.known) c.args.p c.loop-from.s c.loop-from.sum c.loop-from.invariant c.requires.1.0 (taken c)
+loop-again c = counting_next c.args.text.now c.args.known.now c.args.p c.loop-from.s c.loop-from.sum c.loop-from.invariant c.requires.1.0 (taken c)
 
 enum_told : tie.Need-enum_told-1 invariant-loop decreases-loop
 enum_told c = search rules
 
 returns : tie.Need-returns-in-End invariant-loop decreases-loop
 returns c =
-    counting_end c.args.text.now (lent c.args.starts.now c.args.lengths.now c.args.known) c.args.p c.loop-from.s c.loop-from.sum c.loop-from.invariant c.requires.1.0
+    counting_end c.args.text.now c.args.known.now c.args.p c.loop-from.s c.loop-from.sum c.loop-from.invariant c.requires.1.0
     (taken_end c.args.text.now (c.loop-from.s.at + 1) c.loop-from.s.punycoded c.in-End.is c.next_segment.ensures)
 
 pub name_length_spec : {M : Type 1} → statement M

@@ -10,7 +10,7 @@ use borrow.Author.Tests.{lt-ltb, le-leb, lt-leb, leb-true}
 use lib.Dec.{leb}
 use lib.ListN.{length, get_or, take, drop, get_elem?, length-drop}
 use lib.Seq.{drop-drop, drop-length}
-use Rattle.definition.specs.Base.{Name, is, lower, upper, ok, refused, ret, unless, and_then, ◌>>=◌, ◌>>◌}
+use Rattle.definition.specs.Base.{Name, is, lower, upper, ok, refused, ret, unless, and_then, ◌>>=◌}
 use Rattle.definition.specs.Text.{Text, next_if, natural}
 use Rattle.definition.specs.Words.{take_bytes}
 use Rattle.text_cursor.proofs.Steps.{front, ended, differ}
@@ -19,7 +19,6 @@ use Rattle.text_spelling.specs.Segments.{Segment, segment, end, mark, counted, o
 use Rattle.text_spelling.specs.SegmentsRead.{Taken, SegmentIs, Passed}
 use Rattle.text_spelling.specs.declared.segments.Speller.{Speller}
 use Rattle.text_spelling.specs.declared.segments.Segment.{Segment as Answer}
-use Rattle.text_spelling.specs.declared.segments.Segment.TheVariants as Answer
 
 -- THE LEAD
 module _ (t : Text) {u : Text} where

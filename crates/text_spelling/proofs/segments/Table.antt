@@ -6,11 +6,12 @@ use mathlib.Core.Option.{Option, some, none}
 use Prim.Native.Nat.{ℕ, zero, suc, ◌+◌, ◌-◌, ◌≤◌, ◌<◌}
 use native.Mathlib.Omega.{arith}
 use native.Mathlib.Nat.{eq-or-lt_of_le}
-use lib.ListN.{length, get_or, take, drop, get_elem?, length-append}
+use lib.ListN.{length, take, drop, get_elem?, length-append}
 use Rattle.definition.specs.Base.{Name}
 use Rattle.definition.specs.Text.{Text}
-use Rattle.text_words.specs.Table.{word_of, words_of, table, Fitting}
-use Rattle.text_words.specs.declared.Words.{Words}
+use Rattle.text_words.specs.declared.spans.Span.{Span}
+use Rattle.text_words.specs.Table.{span_at, word_of, words_of, table, Fitting}
+use Rattle.text_words.specs.Table.{Words}
 use Rattle.text_spelling.specs.Segments.{segment, end, of_word}
 use Rattle.text_spelling.specs.SegmentsRead.{Taken}
 use Rattle.text_spelling.specs.declared.segments.Speller.{Speller}
@@ -29,42 +30,43 @@ found_none [] i h = refl
 found_none (v ∷ ws) zero h = absurd (omega arith)
 found_none (v ∷ ws) (suc i) h = found_none ws i (omega arith)
 
-module _ (text : Text) (starts lengths : List ℕ) where
-  words_length : (n : ℕ) → length (words_of text starts lengths n) ≡ n
+module _ (text : Text) (spans : List Span) where
+  words_length : (n : ℕ) → length (words_of text spans n) ≡ n
   unfolding words_of
   words_length zero = refl
-  words_length (suc n) = length-append (words_of text starts lengths n) _ ∙ omega (arith, words_length n)
+  words_length (suc n) = length-append (words_of text spans n) _ ∙ omega (arith, words_length n)
 
-  words_at : (n i : ℕ) → i < n → get_elem? (words_of text starts lengths n) i ≡ some (word_of text starts lengths i)
+  words_at : (n i : ℕ) → i < n → get_elem? (words_of text spans n) i ≡ some (word_of text spans i)
   unfolding words_of
   words_at zero i h = absurd (omega arith)
   words_at (suc n) i h = let le : i ≤ n = omega arith in ⊎_elim (last n i) (before n i (words_at n i)) (eq-or-lt_of_le le)
     where
-      before : (n i : ℕ) → (i < n → get_elem? (words_of text starts lengths n) i ≡ some (word_of text starts lengths i)) → i < n →
-          get_elem? (words_of text starts lengths n ++ (word_of text starts lengths n ∷ [])) i ≡ some (word_of text starts lengths i)
-      before n i ih k = let l : i < length (words_of text starts lengths n) = omega (arith, words_length n) in found_before (words_of text starts lengths n) (word_of text starts lengths n) i l ∙ ih k
+      before : (n i : ℕ) → (i < n → get_elem? (words_of text spans n) i ≡ some (word_of text spans i)) → i < n →
+          get_elem? (words_of text spans n ++ (word_of text spans n ∷ [])) i ≡ some (word_of text spans i)
+      before n i ih k = let l : i < length (words_of text spans n) = omega (arith, words_length n) in found_before (words_of text spans n) (word_of text spans n) i l ∙ ih k
 
-      last : (n i : ℕ) → i ≡ n → get_elem? (words_of text starts lengths n ++ (word_of text starts lengths n ∷ [])) i ≡ some (word_of text starts lengths i)
+      last : (n i : ℕ) → i ≡ n → get_elem? (words_of text spans n ++ (word_of text spans n ∷ [])) i ≡ some (word_of text spans i)
       last n i k =
-          ap (get_elem? (words_of text starts lengths n ++ (word_of text starts lengths n ∷ []))) (k ∙ sym (words_length n)) ∙ found_last (words_of text starts lengths n) (word_of text starts lengths n)
-          ∙ ap (λ (m : ℕ). some (word_of text starts lengths m)) (sym k)
+          ap (get_elem? (words_of text spans n ++ (word_of text spans n ∷ []))) (k ∙ sym (words_length n)) ∙ found_last (words_of text spans n) (word_of text spans n)
+          ∙ ap (λ (m : ℕ). some (word_of text spans m)) (sym k)
 
 module _ (text : Text) (w : Words) (i : ℕ) (next : Speller) where
   pub no_word : w.count ≤ i → of_word (get_elem? (table text w) i) next.more (drop next.at text) ≡ end
   no_word h =
-      let k : length (table text w) ≤ i = omega (arith, words_length text w.starts w.lengths w.count) in
+      let k : length (table text w) ≤ i = omega (arith, words_length text w.spans w.count) in
       ap (λ (o : Option Name). of_word o next.more (drop next.at text)) (found_none (table text w) i k)
 
-  pub the_word : {from len : ℕ} → from ≡ get_or w.starts i 0 → len ≡ get_or w.lengths i 0 → i < w.count → Fitting text w → next.at ≤ length text →
-      Taken (of_word (get_elem? (table text w) i) next.more (drop next.at text)) text next.at next.punycoded from (from + len) next
-  the_word {from} {len} a b h g l =
-      let z : get_or w.lengths i 0 ≡ (from + len) - from = omega arith in
+  pub the_word : {from to : ℕ} {s : Span} → s ≡ span_at w.spans i → from ≡ s.start → to ≡ s.start + s.length → i < w.count → Fitting text w → next.at ≤ length text →
+      Taken (of_word (get_elem? (table text w) i) next.more (drop next.at text)) text next.at next.punycoded from to next
+  the_word {from} {to} {s} e a b h g l =
+      let n : s.length ≡ to - from = omega arith in
       record {
-        is = ap (λ (o : Option Name). of_word o next.more (drop next.at text)) (words_at text w.starts w.lengths w.count i h)
-            ∙ ap (λ (m : ℕ). segment (take m (drop (get_or w.starts i 0) text)) next.more (drop next.at text)) z ∙ ap (λ (f : ℕ). segment (take ((from + len) - from) (drop f text)) next.more (drop next.at text)) (sym a);
+        is = ap (λ (o : Option Name). of_word o next.more (drop next.at text)) (words_at text w.spans w.count i h)
+            ∙ ap (λ (t : Span). segment (take t.length (drop t.start text)) next.more (drop next.at text)) (sym e)
+            ∙ ap (λ (m : ℕ). segment (take m (drop s.start text)) next.more (drop next.at text)) n ∙ ap (λ (f : ℕ). segment (take (to - from) (drop f text)) next.more (drop next.at text)) (sym a);
         kept = refl;
         order = omega arith;
-        inside = omega (arith, g.inside i h);
+        inside = omega (arith, g.inside i h, ap (λ (t : Span). t.start + t.length) e);
         onward = omega arith;
         within = l;
       }

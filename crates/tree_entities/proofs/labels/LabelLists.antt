@@ -19,17 +19,16 @@ use Rattle.definition.specs.Perform.{Demangler}
 use Rattle.tree_records.specs.Lies.{at, absent, Lies, LabelIs, LabelCells, LabelList}
 use Rattle.tree_records.specs.Holds.{Names, Named, Spare, Holds, Ready, TopIs, Took, Keeps, Grew, for_record, for_push}
 use Rattle.tree_records.specs.declared.State.{State}
-use Rattle.tree_records.specs.declared.Popped.{Popped}
-use Rattle.tree_records.specs.declared.Popped.TheVariants as Popped
 use Rattle.machine.specs.Beyond.{Beyond}
 use Rattle.tree_nodes.specs.Gives.{Marks}
-use Rattle.tree_nodes.specs.declared.Marked.{Marked}
+use Rattle.tree_nodes.specs.Results.{Marked}
 use Rattle.tree_nodes.proofs.ByKind.{identifier_of}
 use Rattle.tree_nodes.proofs.Taking.{less_spare, keeps_itself}
 use Rattle.tree_nodes.proofs.Leaving.{keeps_then}
-use Rattle.tree_entities.specs.LabelsOf.{one_label, some_labels, GivesCell, TakesCell, TakesLabels}
-use Rattle.tree_entities.specs.declared.labels.LabelsTaken.{LabelsTaken}
-use Rattle.tree_entities.specs.declared.labels.LabelsTaken.TheVariants as LabelsTaken
+use Rattle.tree_entities.specs.LabelsOf.{one_label, some_labels, GivesCell, GivesLabels, TakesLabels}
+use Rattle.std.specs.Prelude.{Result, Ok, Err}
+use Rattle.definition.specs.declared.Refusal.{Refusal}
+use Rattle.tree_entities.specs.declared.labels.Labelled.{Labelled}
 
 -- cells are unchanged where the records below top are unchanged, and are found again from another
 -- record
@@ -102,13 +101,6 @@ pub label_empty : (m : Demangler) → m.stack ≡ [] → one_label m ≡ refused
 unfolding M.pop M.pop_if M.pop_from
 label_empty m e = rw e refl
 
--- the result of an arm
-pub cell_at : {w w' : List ℕ} {N : ℕ} {st : State} {next : ℕ} {r : Popped} (p : ℕ) (u : State) → r ≡ Popped.Place p u → TakesCell w w' N st next r → GivesCell w w' N st next p u
-cell_at {w} {w'} {N} {st} {next} p u e h = subst (λ (x : Popped). TakesCell w w' N st next x) e h
-
-pub cell_not : {w w' : List ℕ} {N : ℕ} {st : State} (next : ℕ) {r : Popped} → r ≡ Popped.Nothing → TakesCell w w' N st next r → ((nm : Names) (sp : Spare) (m : Demangler) → Holds nm w N st sp m → one_label m ≡ refused 10) × Beyond 64 N w w'
-cell_not {w} {w'} {N} {st} next e h = subst (λ (x : Popped). TakesCell w w' N st next x) e h
-
 -- THAT MANY ENTRIES
 pub assoc : {S A B D : Type 0} (x : Out S A) (f : A → Step S B) (g : B → Step S D) → and_then (and_then x f) g ≡ and_then x (λ a s. and_then (f a s) g)
 assoc (ok a s) f g = refl
@@ -171,7 +163,7 @@ module _ {w₀ w : List ℕ} {N : ℕ} {st u : State} {many left first : ℕ} (t
         };
   }
 
-  pub labels_fail : {w' : List ℕ} → 0 < left → ((nm : Names) (sp : Spare) (m : Demangler) → Holds nm w N u sp m → one_label m ≡ refused 10) × Beyond 64 N w w' → (nm : Names) → TakesLabels nm (some_labels many) w₀ w' N st LabelsTaken.Nothing
+  pub labels_fail : {w' : List ℕ} {k : ℕ} → 0 < left → ((nm : Names) (sp : Spare) (m : Demangler) → Holds nm w N u sp m → one_label m ≡ refused k) × Beyond 64 N w w' → (nm : Names) → ((sp : Spare) (m : Demangler) → Holds nm w₀ N st sp m → some_labels many m ≡ refused k) × Beyond 64 N w₀ w'
   labels_fail l f nm = (
     λ sp m h.
         let g = t.gives nm sp m h in
@@ -179,7 +171,7 @@ module _ {w₀ w : List ℕ} {N : ℕ} {st u : State} {many left first : ℕ} (t
     record { past = λ i j. f.1.past i j ∙ t.keeps.past i j; long = f.1.long ∙ t.keeps.long },
   )
 
-  pub labels_end : left ≡ 0 → (nm : Names) → TakesLabels nm (some_labels many) w₀ w N st (LabelsTaken.Labels first (many + 1) u)
+  pub labels_end : left ≡ 0 → (nm : Names) → GivesLabels nm (some_labels many) w₀ w N st first (many + 1) u
   unfolding R.labels_from
   labels_end z nm = record {
     rising = t.rising;
@@ -205,7 +197,7 @@ labels_fit t z r = let h = r.holds in omega (arith, t.deep, h.small, h.charged, 
 
 -- THE LABELS: the empty list is tried first
 module _ (nm : Names) {w : List ℕ} {N : ℕ} {st : State} {b : Marked} (t : Marks (R.took K.empty_list) w N st b) (x : Node) where
-  pub labels_empty : b.taken ≡ true → TakesLabels nm (R.labels x) w w N st (LabelsTaken.Labels 0 1 b.next)
+  pub labels_empty : b.taken ≡ true → GivesLabels nm (R.labels x) w w N st 0 1 b.next
   unfolding R.labels
   labels_empty e = record {
     rising = omega (arith, t.top);
@@ -216,7 +208,7 @@ module _ (nm : Names) {w : List ℕ} {N : ℕ} {st : State} {b : Marked} (t : Ma
         record { labels = some []; machine = g.0; is = rw (g.1, e) refl; lies = λ f k p a c l. (c, tt); holds = g.2 };
   }
 
-  pub labels_none : b.taken ≡ false → R.arity x ≡ 0 → TakesLabels nm (R.labels x) w w N st (LabelsTaken.Labels 0 0 b.next)
+  pub labels_none : b.taken ≡ false → R.arity x ≡ 0 → GivesLabels nm (R.labels x) w w N st 0 0 b.next
   unfolding R.labels
   labels_none e z = record {
     rising = omega (arith, t.top);
@@ -227,9 +219,9 @@ module _ (nm : Names) {w : List ℕ} {N : ℕ} {st : State} {b : Marked} (t : Ma
         record { labels = none; machine = g.0; is = rw (g.1, e, eq-eqb (R.arity x) 0 z) refl; lies = λ f k p a c l. c; holds = g.2 };
   }
 
-  labels_some : (w' : List ℕ) (r : LabelsTaken) → b.taken ≡ false → (R.arity x ≡ 0 → ⊥) → TakesLabels nm (some_labels (R.arity x)) w w' N b.next r → TakesLabels nm (R.labels x) w w' N st r
+  labels_some : (w' : List ℕ) (u : State) (r : Result Labelled Refusal) → b.taken ≡ false → (R.arity x ≡ 0 → ⊥) → TakesLabels nm (some_labels (R.arity x)) w w' N b.next u r → TakesLabels nm (R.labels x) w w' N st u r
   unfolding R.labels
-  labels_some w' (LabelsTaken.Labels first number u) e z s = record {
+  labels_some w' u (Ok l) e z s = record {
     rising = omega (arith, t.top, s.rising);
     deep = omega (arith, t.deep, s.deep);
     keeps = subst (λ (n : ℕ). Keeps w w' N n) t.top s.keeps;
@@ -238,7 +230,7 @@ module _ (nm : Names) {w : List ℕ} {N : ℕ} {st : State} {b : Marked} (t : Ma
         let o = s.gives sp g.0 g.2 in
         record { labels = o.labels; machine = o.machine; is = rw (g.1, e, ne_eqb (R.arity x) 0 z) o.is; lies = o.lies; holds = o.holds };
   }
-  labels_some w' LabelsTaken.Nothing e z s = (λ sp m h. let g = t.gives nm sp m h in rw (g.1, e, ne_eqb (R.arity x) 0 z) (s.0 sp g.0 g.2), s.1)
+  labels_some w' u (Err f) e z s = (λ sp m h. let g = t.gives nm sp m h in rw (g.1, e, ne_eqb (R.arity x) 0 z) (s.0 sp g.0 g.2), s.1)
 
-  pub labels_many : (w' : List ℕ) (many : ℕ) (r : LabelsTaken) → b.taken ≡ false → many ≡ R.arity x → (many ≡ 0 → ⊥) → TakesLabels nm (some_labels many) w w' N b.next r → TakesLabels nm (R.labels x) w w' N st r
-  labels_many w' many r e q z s = labels_some w' r e (λ y. z (q ∙ y)) (subst (λ (n : ℕ). TakesLabels nm (some_labels n) w w' N b.next r) q s)
+  pub labels_many : (w' : List ℕ) (u : State) (many : ℕ) (r : Result Labelled Refusal) → b.taken ≡ false → many ≡ R.arity x → (many ≡ 0 → ⊥) → TakesLabels nm (some_labels many) w w' N b.next u r → TakesLabels nm (R.labels x) w w' N st u r
+  labels_many w' u many r e q z s = labels_some w' u r e (λ y. z (q ∙ y)) (subst (λ (n : ℕ). TakesLabels nm (some_labels n) w w' N b.next u r) q s)

@@ -4,26 +4,23 @@ use mathlib.Core.List.{List, [], ◌∷◌}
 use Prim.Native.Nat.{ℕ, ◌+◌, ◌<◌}
 use native.Mathlib.Omega.{arith}
 use lib.ListN.{get_or}
-use Rattle.definition.specs.Base.{Name, bytes, refused, Done}
+use Rattle.definition.specs.Base.{Name, bytes}
 use Rattle.definition.specs.Enums.{number}
 use Rattle.definition.specs.Node.{Node, Variable, Accessor, kind, size, count, view}
 use Rattle.definition.specs.Machine.{restack, push}
 use Rattle.definition.specs.Perform as R
-use Rattle.definition.specs.Perform.{Demangler, Run}
+use Rattle.definition.specs.Perform.{Demangler}
 use Rattle.definition.specs.declared.Accessor as A
 use Rattle.definition.specs.declared.Accessor.TheVariants as Letter
 use Rattle.definition.specs.declared.Refusal.TheVariants as Refusal
 use Rattle.tree_records.specs.Lies.{at, Child, Lies, Would}
-use Rattle.tree_records.specs.Holds.{Fixed, Names, Named, Spare, Inside, Holds, Grew, for_record, for_push}
+use Rattle.tree_records.specs.Holds.{Fixed, Names, Named, Inside, Grew, for_record, for_push}
 use Rattle.tree_records.specs.declared.State.{State}
-use Rattle.tree_nodes.specs.declared.Step.{Step}
-use Rattle.tree_nodes.specs.declared.Step.TheVariants as Step
-use Rattle.tree_nodes.specs.Gives.{spare, nothing_spare, Under, Left, GivesName, TakesName}
+use Rattle.tree_nodes.specs.Results.{Step}
+use Rattle.tree_nodes.specs.Gives.{spare, nothing_spare, Under, Left}
 use Rattle.machine.specs.Beyond.{beyond_itself}
 use Rattle.tree_nodes.proofs.Taking.{less_spare}
 use Rattle.tree_parts.specs.Leaves.{Entity, LeavesVariable}
-use Rattle.tree_nodes.specs.declared.NameTaken.{NameTaken}
-use Rattle.tree_nodes.specs.declared.NameTaken.TheVariants as NameTaken
 
 -- the sizes that were read
 pub grew_sized : {w w' : List ℕ} {N : ℕ} {st u : State} {k a b a' b' : ℕ} {vs : List ℕ} → a ≡ a' → b ≡ b' → Grew w w' N st u (k ∷ (a + b + 1) ∷ vs) → Grew w w' N st u (k ∷ (a' + b' + 1) ∷ vs)
@@ -102,13 +99,6 @@ module _ {w : List ℕ} {N : ℕ} {st : State} {c ty : ℕ} (q : Entity w N st c
     below = omega (arith, ap (λ (s : State). s.top) g.state);
     fits = omega (arith, g.fields 1 (omega arith), q.c_small, q.ty_small);
   }
-
--- the result for a name
-pub named : {f : Run Name} {w : List ℕ} {N : ℕ} {st : State} {r : NameTaken} (k : ℕ) (u : State) → r ≡ NameTaken.Name k u → TakesName f w N st r → GivesName f w N st k u
-named {f} {w} {N} {st} k u e h = subst (λ (x : NameTaken). TakesName f w N st x) e h
-
-pub nameless : (f : Run Name) {w : List ℕ} {N : ℕ} {st : State} {r : NameTaken} → r ≡ NameTaken.Nothing → TakesName f w N st r → (nm : Names) (sp : Spare) (m : Demangler) → Holds nm w N st sp m → f m ≡ refused 10
-nameless f {w} {N} {st} e h = subst (λ (x : NameTaken). TakesName f w N st x) e h
 
 -- the size that was read
 pub left_sized : {w w' : List ℕ} {N : ℕ} {st u : State} {k z y : ℕ} {vs : List ℕ} → z ≡ y → Left w w' N st u (k ∷ (z + 1) ∷ vs) → Left w w' N st u (k ∷ (y + 1) ∷ vs)

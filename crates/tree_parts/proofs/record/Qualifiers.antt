@@ -2,7 +2,7 @@
 use mathlib.Core.Path.{◌≡◌, refl, ap, subst}
 use mathlib.Core.List.{List, [], ◌∷◌}
 use mathlib.Core.Option.{some, none}
-use Prim.Native.Nat.{ℕ, ◌+◌, ◌-◌, ◌^◌, ◌<◌}
+use Prim.Native.Nat.{ℕ, ◌+◌, ◌^◌, ◌<◌}
 use native.Mathlib.Omega.{arith}
 use Rattle.definition.specs.Base.{ok}
 use Rattle.definition.specs.Kind as K
@@ -17,7 +17,7 @@ use Rattle.tree_parts.specs.Parts.{Qualifies}
 
 -- THE QUALIFIER OF AN ASSOCIATED CONFORMANCE
 module _ {w w₁ : List ℕ} {N : ℕ} {st u v : State} {p : ℕ} where
-  pub qualifier_there : GivesIf (R.try K.is_protocol) w N st p u → Grew w w₁ N u v (0 ∷ 0 ∷ 0 ∷ 4294967295 ∷ p ∷ 0 ∷ 0 ∷ 0 ∷ []) → Qualifies w w₁ N st (record { form = 4; cell = u.top; next = v })
+  pub qualifier_there : GivesIf (R.try K.is_protocol) w N st p u → Grew w w₁ N u v (0 ∷ 0 ∷ 0 ∷ 4294967295 ∷ p ∷ 0 ∷ 0 ∷ 0 ∷ []) → Qualifies w w₁ N st v (record { form = 4; cell = u.top })
   unfolding R.one_or_none many
   qualifier_there a g =
       let up : v.top ≡ u.top + 1 = ap (λ (s : State). s.top) g.state in
@@ -41,7 +41,7 @@ module _ {w w₁ : List ℕ} {N : ℕ} {st u v : State} {p : ℕ} where
             };
       }
 
-pub qualifier_missing : {w : List ℕ} {N : ℕ} {st : State} → ((nm : Names) (sp : Spare) (m : Demangler) → Holds nm w N st sp m → R.try K.is_protocol m ≡ ok none m) → Qualifies w w N st (record { form = 2; cell = 0; next = st })
+pub qualifier_missing : {w : List ℕ} {N : ℕ} {st : State} → ((nm : Names) (sp : Spare) (m : Demangler) → Holds nm w N st sp m → R.try K.is_protocol m ≡ ok none m) → Qualifies w w N st st (record { form = 2; cell = 0 })
 unfolding R.one_or_none many
 qualifier_missing {w} {N} {st} a = record {
   rising = omega arith;

@@ -3,7 +3,7 @@ use mathlib.Core.Path.{◌≡◌, sym, ap, subst, ◌∙◌}
 use mathlib.Core.List.{List, ◌∷◌}
 use Prim.Native.Nat.{ℕ, ◌<◌}
 use native.Mathlib.Omega.{arith}
-use Rattle.definition.specs.Base.{refused, Done, and_then}
+use Rattle.definition.specs.Base.{refused, and_then}
 use Rattle.definition.specs.Enums as Enums
 use Rattle.definition.specs.Enums.{number}
 use Rattle.definition.specs.Node.{size}
@@ -12,20 +12,15 @@ use Rattle.definition.specs.Machine.{restack}
 use Rattle.definition.specs.Perform as R
 use Rattle.definition.specs.Perform.{Demangler}
 use Rattle.definition.specs.declared.Operator.{Operator}
-use Rattle.definition.specs.declared.Operator.TheVariants as Operator
 use Rattle.definition.specs.declared.Accessor.{Accessor}
-use Rattle.definition.specs.declared.Accessor.TheVariants as Accessor
 use Rattle.definition.specs.declared.Refusal.{Refusal}
 use Rattle.tree_records.specs.Holds.{Names, Spare, Inside, Holds, Ready, Pushed, for_push}
 use Rattle.tree_records.specs.declared.State.{State}
 use Rattle.machine.specs.Beyond.{Beyond}
-use Rattle.tree_nodes.specs.Gives.{spare, nothing_spare, full_spare, taken, Given, Building, Builds, Performed, Operates}
-use Rattle.tree_nodes.specs.declared.Built.{Built}
-use Rattle.tree_nodes.specs.declared.Built.TheVariants as Built
-use Rattle.tree_nodes.specs.declared.Step.{Step}
-use Rattle.tree_nodes.specs.declared.Step.TheVariants as Step
+use Rattle.tree_nodes.specs.Gives.{spare, nothing_spare, full_spare, taken, Given, Building, Performed, Operates}
+use Rattle.tree_nodes.specs.Results.{Step}
+use Rattle.tree_nodes.specs.Results as Step
 use Rattle.tree_nodes.proofs.Taking.{less_spare}
-use Rattle.tree_nodes.proofs.Ready.{room}
 use Rattle.tree_parts.specs.Leaves.{letter}
 
 -- the definition's operator, given the fixed names
@@ -63,14 +58,3 @@ module _ {w w₁ : List ℕ} {N : ℕ} {st u : State} {p : ℕ} where
     past = λ i l. a.keeps.past i l ∙ g.keeps.past i l;
     long = a.keeps.long ∙ g.keeps.long;
   }
-
-pub function_refused : {w w₁ : List ℕ} {N : ℕ} {st : State} {r : Refusal} → ((nm : Names) (sp : Spare) (m : Demangler) → Holds nm w N st sp m → R.function_type m ≡ refused (number r)) × Beyond 64 N w w₁ → Operates (performed N Operator.FunctionType) w w₁ N st (Step.Refused r)
-unfolding R.perform Enums.operator
-function_refused g = record { runs = λ nm m i h. ap (λ y. and_then y (λ x. M.push x)) (g.0 nm full_spare m h); past = g.1.past; long = g.1.long }
-
--- the result of an arm for what is built
-pub built_place : {w w₁ : List ℕ} {N : ℕ} {st : State} {r : Built} (p : ℕ) (u : State) → r ≡ Built.Place p u → Builds R.function_type 1 0 w w₁ N st r → Building R.function_type 1 0 w w₁ N st p u
-built_place {w} {w₁} {N} {st} p u e h = subst (λ (x : Built). Builds R.function_type 1 0 w w₁ N st x) e h
-
-pub built_refused : {w : List ℕ} (w₁ : List ℕ) {N : ℕ} {st : State} {r : Built} (x : Refusal) → r ≡ Built.Refused x → Builds R.function_type 1 0 w w₁ N st r → ((nm : Names) (sp : Spare) (m : Demangler) → Holds nm w N st sp m → R.function_type m ≡ refused (number x)) × Beyond 64 N w w₁
-built_refused {w} w₁ {N} {st} x e h = subst (λ (y : Built). Builds R.function_type 1 0 w w₁ N st y) e h

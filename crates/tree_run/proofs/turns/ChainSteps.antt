@@ -16,22 +16,21 @@ use Rattle.definition.specs.Calls.{then_run}
 use Rattle.definition.specs.Enums.{number}
 use Rattle.definition.specs.declared.Refusal.{Refusal}
 use Rattle.text_cursor.specs.declared.Cursor.{Cursor}
-use Rattle.operator_substitutions.specs.Chain.{Chain, ended, more, chain, outcome, Same, Begins, Ends, Breaks, Copied}
-use Rattle.operator_substitutions.specs.declared.SubstitutionRead.{SubstitutionRead}
-use Rattle.operator_substitutions.specs.declared.SubstitutionRead.TheVariants as SubstitutionRead
+use Rattle.operator_substitutions.specs.Chain.{Chain, ended, more, chain, outcome, Same, Begins, Ends, Breaks, Item}
+use Rattle.text_cursor.specs.Reads.{rest}
+use Rattle.text_cursor.specs.declared.Reader.{Reader}
 use Rattle.tree_records.specs.Holds.{Names, Spare, Holds, Ready}
 use Rattle.tree_records.specs.declared.State.{State}
 use Rattle.machine.specs.Beyond.{Beyond, beyond_itself, beyond_both}
 use Rattle.tree_nodes.specs.Gives.{nothing_spare}
-use Rattle.tree_nodes.specs.declared.Step.{Step as Stepped}
-use Rattle.tree_nodes.specs.declared.Step.TheVariants as Stepped
+use Rattle.tree_nodes.specs.Results.{Step as Stepped}
+use Rattle.tree_nodes.specs.Results as Stepped
 use Rattle.tree_copies.specs.Copies.{Recalled, recall_copies}
 use Rattle.tree_copies.proofs.Copies.{not_recalled}
 use Rattle.machine.proofs.runs.Turns.{regroup}
 use Rattle.tree_records.specs.NamesOf.{Noted, names_of}
 use Rattle.tree_run.specs.Turns.{Reads, Comes, Fails, performs, chained, Goes, Letters}
 use Rattle.tree_run.specs.declared.turns.Letter.{Letter}
-use Rattle.tree_run.specs.declared.turns.Letter.TheVariants as Letter
 
 module _ (N : ℕ) (m : Demangler) where
   -- an item, then the rest
@@ -48,48 +47,48 @@ module _ (N : ℕ) (m : Demangler) where
   performs_bad r u = refl
 
 -- ONE ITEM
-module _ (N : ℕ) (text : Text) (at : ℕ) (m : Demangler) where
-  begins_is : {t i : ℕ} {c : Cursor} {o : Out Demangler Done} → Begins (chain (drop at text)) text at t i c → recall_copies N t i m ≡ o → chained N text at m ≡ and_then o (λ x. chained N text c.at)
-  begins_is {t} {i} {c} {o} b q =
-      ap (λ (ch : Chain). performs N (outcome ch) m) b.is ∙ (performs_more N m t i (chain (drop c.at text)) ∙ ap (λ (x : Out Demangler Done). and_then x (λ y. chained N text c.at)) q)
+module _ (N : ℕ) (old new : Reader) (m : Demangler) where
+  begins_is : {t i : ℕ} {o : Out Demangler Done} → Begins (chain (rest old)) t i old new → recall_copies N t i m ≡ o → chained N old.text.now old.at m ≡ and_then o (λ x. chained N old.text.now new.at)
+  begins_is {t} {i} b q =
+      ap (λ (ch : Chain). performs N (outcome ch) m) (rw b.text at b.is) ∙ (performs_more N m t i (chain (drop new.at old.text.now)) ∙ ap (λ (x : Out Demangler Done). and_then x (λ y. chained N old.text.now new.at)) q)
 
-module _ (N : ℕ) (text : Text) (at : ℕ) {w : List ℕ} {st : State} where
+module _ (N : ℕ) (old new : Reader) {w : List ℕ} {st : State} where
   -- an index past every remembered node is refused like any other such index
   same_index : {i j : ℕ} {nm : Names} {m : Demangler} (t : ℕ) → Holds nm w N st nothing_spare m → Same i j → recall_copies N t j m ≡ recall_copies N t i m
   same_index {m = m} t h (inl q) = ap (λ (k : ℕ). recall_copies N t k m) (sym q)
   same_index {i} {j} t h (inr p) =
       not_recalled t j h (omega (arith, p.1, h.kept, h.charged, h.small)) ∙ sym (not_recalled t i h (omega (arith, p.0, h.kept, h.charged, h.small)))
 
-  ends_is : {t i : ℕ} {c : Cursor} {o : Out Demangler Done} {nm : Names} {m : Demangler} → Holds nm w N st nothing_spare m → Ends (chain (drop at text)) text at t i c → recall_copies N t i m ≡ o → chained N text at m ≡ and_then o (λ x. performs N (outcome (ended (good tt) (drop c.at text))))
-  ends_is {t} {i} {c} {o} {nm} {m} h b q =
-      ap (λ (ch : Chain). performs N (outcome ch) m) b.is ∙ (performs_more N m t b.index (ended (good tt) (drop c.at text))
-      ∙ ap (λ (x : Out Demangler Done). and_then x (λ y. performs N (outcome (ended (good tt) (drop c.at text))))) (same_index t h b.same ∙ q))
+  ends_is : {t i : ℕ} {o : Out Demangler Done} {nm : Names} {m : Demangler} → Holds nm w N st nothing_spare m → Ends (chain (rest old)) t i old new → recall_copies N t i m ≡ o → chained N old.text.now old.at m ≡ and_then o (λ x. performs N (outcome (ended (good tt) (drop new.at old.text.now))))
+  ends_is {t} {i} {m = m} h b q =
+      ap (λ (ch : Chain). performs N (outcome ch) m) (rw b.text at b.is) ∙ (performs_more N m t b.index (ended (good tt) (drop new.at old.text.now))
+      ∙ ap (λ (x : Out Demangler Done). and_then x (λ y. performs N (outcome (ended (good tt) (drop new.at old.text.now))))) (same_index t h b.same ∙ q))
 
-  pub item_more : (t i : ℕ) (b : Bool) {c : Cursor} {w₁ : List ℕ} {u : State} → b ≡ false → Copied (chain (drop at text)) text at (SubstitutionRead.Copies t i b c) → Recalled w w₁ N st t i (Stepped.Done u) → Goes N text at w w₁ st u c
-  item_more t i b {c} {w₁} {u} e g h =
-      let a : Begins (chain (drop at text)) text at t i c = subst (λ (x : Bool). Copied (chain (drop at text)) text at (SubstitutionRead.Copies t i x c)) e g in
+  pub item_more : (t i : ℕ) (b : Bool) {w₁ : List ℕ} {u : State} → b ≡ false → Item (chain (rest old)) old new t i b → Recalled w w₁ N st t i (Stepped.Done u) → Goes N old.text.now old.at w w₁ st u (record { at = new.at })
+  item_more t i b e g h =
+      let a : Begins (chain (rest old)) t i old new = subst (Item (chain (rest old)) old new t i) e g in
       record {
-        goes = λ words m q. let o = h.runs (names_of text words) nothing_spare m q in record { machine = o.machine; is = begins_is N text at m a o.is; holds = o.holds };
-        inside = a.inside;
+        goes = λ words m q. let o = h.runs (names_of old.text.now words) nothing_spare m q in record { machine = o.machine; is = begins_is N old new m a o.is; holds = o.holds };
+        inside = rw a.text at a.inside;
         onward = a.onward;
         beyond = h.beyond;
       }
 
-  pub item_last : (t i : ℕ) (b : Bool) {c : Cursor} {w₁ : List ℕ} {u : State} → b ≡ true → Copied (chain (drop at text)) text at (SubstitutionRead.Copies t i b c) → Recalled w w₁ N st t i (Stepped.Done u) → Comes (chained N text at) nothing_spare text w w₁ N st u c
-  item_last t i b {c} {w₁} {u} e g h =
-      let a : Ends (chain (drop at text)) text at t i c = subst (λ (x : Bool). Copied (chain (drop at text)) text at (SubstitutionRead.Copies t i x c)) e g in
+  pub item_last : (t i : ℕ) (b : Bool) {w₁ : List ℕ} {u : State} → b ≡ true → Item (chain (rest old)) old new t i b → Recalled w w₁ N st t i (Stepped.Done u) → Comes (chained N old.text.now old.at) nothing_spare old.text.now w w₁ N st u (record { at = new.at })
+  item_last t i b e g h =
+      let a : Ends (chain (rest old)) t i old new = subst (Item (chain (rest old)) old new t i) e g in
       record {
-        comes = λ words m q. let o = h.runs (names_of text words) nothing_spare m q in record { machine = o.machine; is = ends_is q a o.is ∙ performs_good N o.machine (drop c.at text); holds = o.holds };
-        inside = a.inside;
+        comes = λ words m q. let o = h.runs (names_of old.text.now words) nothing_spare m q in record { machine = o.machine; is = ends_is q a o.is ∙ performs_good N o.machine (drop new.at old.text.now); holds = o.holds };
+        inside = rw a.text at a.inside;
         beyond = h.beyond;
       }
 
-  pub item_fails : (t i : ℕ) (b : Bool) (c : Cursor) {w₁ : List ℕ} {r : Refusal} → Copied (chain (drop at text)) text at (SubstitutionRead.Copies t i b c) → Recalled w w₁ N st t i (Stepped.Refused r) → Fails (chained N text at) nothing_spare text w w₁ N st r
-  item_fails t i false c g h = record { fails = λ words m q. begins_is N text at m g (h.runs (names_of text words) nothing_spare m q); beyond = h.beyond }
-  item_fails t i true c g h = record { fails = λ words m q. ends_is q g (h.runs (names_of text words) nothing_spare m q); beyond = h.beyond }
+  pub item_fails : (t i : ℕ) (b : Bool) {w₁ : List ℕ} {r : Refusal} → Item (chain (rest old)) old new t i b → Recalled w w₁ N st t i (Stepped.Refused r) → Fails (chained N old.text.now old.at) nothing_spare old.text.now w w₁ N st r
+  item_fails t i false g h = record { fails = λ words m q. begins_is N old new m g (h.runs (names_of old.text.now words) nothing_spare m q); beyond = h.beyond }
+  item_fails t i true g h = record { fails = λ words m q. ends_is q g (h.runs (names_of old.text.now words) nothing_spare m q); beyond = h.beyond }
 
-  pub item_broken : {r : Refusal} → Breaks (chain (drop at text)) (number r) → Fails (chained N text at) nothing_spare text w w N st r
-  item_broken {r} b = record { fails = λ words m q. ap (λ (ch : Chain). performs N (outcome ch) m) b.is ∙ performs_bad N m (number r) b.rest; beyond = beyond_itself w N }
+pub item_broken : (N : ℕ) (old : Reader) {w : List ℕ} {st : State} {r : Refusal} → Breaks (chain (rest old)) (number r) → Fails (chained N old.text.now old.at) nothing_spare old.text.now w w N st r
+item_broken N old {w} {r = r} b = record { fails = λ words m q. ap (λ (ch : Chain). performs N (outcome ch) m) b.is ∙ performs_bad N m (number r) b.rest; beyond = beyond_itself w N }
 
 -- whatever is read, w holds some machine
 pub reads_ready : {text : Text} {w : List ℕ} {N : ℕ} {st : State} {sp : Spare} → Reads text w N st sp → Ready w N st sp

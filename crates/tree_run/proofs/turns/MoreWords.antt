@@ -3,10 +3,10 @@
 use mathlib.Core.Path.{◌≡◌, refl, sym, ap, subst, ◌∙◌}
 use mathlib.Core.Bool.{true, false}
 use mathlib.Core.List.{List, [], ◌∷◌, ◌++◌}
-use Prim.Native.Nat.{ℕ, suc, ◌*◌, ◌≤◌, ◌<◌}
+use Prim.Native.Nat.{ℕ, suc, ◌+◌, ◌*◌, ◌≤◌, ◌<◌}
 use native.Mathlib.Omega.{arith}
 use lib.ListN.{length, get_or, drop}
-use Rattle.definition.specs.Base.{Name, is, digit, Out, ok, refused}
+use Rattle.definition.specs.Base.{Name, is, digit, ok, refused}
 use Rattle.definition.specs.Text.{Text}
 use Rattle.definition.specs.Words as W
 use Rattle.definition.specs.Machine as M
@@ -28,10 +28,9 @@ use Rattle.machine.specs.Beyond.{beyond_itself}
 use Rattle.tree_nodes.proofs.Taking.{less_spare}
 use Rattle.tree_records.specs.NamesOf.{Noted, noted, names_of, naming}
 use Rattle.text_words.specs.Table.{part, table}
-use Rattle.text_words.specs.declared.Words.{Words}
-use Rattle.text_identifiers.specs.declared.NameRead.{NameRead}
-use Rattle.text_identifiers.specs.declared.NameRead.TheVariants as NameRead
+use Rattle.text_words.specs.Table.{Words}
 use Rattle.text_identifiers.specs.Identifiers as Answers
+use Rattle.text_identifiers.proofs.Identifying.{Place}
 use Rattle.text_identifiers.proofs.OneLiteral.{one_literal, one_refused}
 use Rattle.text_cursor.proofs.Steps.{differ, peek_read}
 use Rattle.tree_run.specs.Turns.{Came, Fails, step_and_charge, Charged, NameCame, NameFails, PlainCame}
@@ -106,12 +105,12 @@ module _ (N : ℕ) (text : Text) (at : ℕ) (l : at < length text) (e : digit (g
 
   -- with a table
   module _ (words : Words) where
-    pub name_came : {w w₁ : List ℕ} {st u v : State} {c : Cursor} (after : Words) (a : ℕ) → a ≡ at → length text ≤ 65535 → Charged N st u → Answers.Reads (W.identifier (table text words) (drop at text)) text at after c → Kept w w₁ N u v (0 ∷ 1 ∷ 0 ∷ a ∷ 0 ∷ 0 ∷ 0 ∷ 0 ∷ []) →
+    pub name_came : {w w₁ : List ℕ} {st u v : State} {c : Cursor} (after : Words) (a : ℕ) → a ≡ at → length text ≤ 65535 → Charged N st u → (name : Name) → Place (W.identifier (table text words) (drop at text)) (W.identified name (table text after)) text (at + 1) c.at → Kept w w₁ N u v (0 ∷ 1 ∷ 0 ∷ a ∷ 0 ∷ 0 ∷ 0 ∷ 0 ∷ []) →
         NameCame N text at words after w w₁ st v c
-    name_came {c = c} after a ea short g r k = record {
+    name_came {c = c} after a ea short g name r k = record {
       comes = λ m h.
-          let begins : Begins (table text words) (table text after) = identifier_begins (table text words) (drop at text) (drop c.at text) (W.identified r.name (table text after)) r.is in
-          came_named (noted (table text words) (table text words)) (noted (table text after) (table text after)) r.name a ea short g h begins r.is (λ _. begins_refl (table text after)) k;
+          let begins : Begins (table text words) (table text after) = identifier_begins (table text words) (drop at text) (drop c.at text) (W.identified name (table text after)) r.is in
+          came_named (noted (table text words) (table text words)) (noted (table text after) (table text after)) name a ea short g h begins r.is (λ _. begins_refl (table text after)) k;
       inside = r.inside;
       beyond = record { past = k.keeps.past; long = k.keeps.long };
     }
@@ -141,10 +140,3 @@ name_not_begun N text at words {w} x a = record { fails = λ m h. turn_is N (dro
 -- room for the name
 pub name_room : {N : ℕ} {w : List ℕ} {st u : State} → Charged N st u → Ready w N st nothing_spare → Inside w N u 5 1 1
 name_room {N} {w} g r = let h = (g.gives r.names w r.machine r.holds).2 in record { small = h.small; long = h.long; charged = h.charged; room = omega (arith, h.room); deep = omega (arith, h.deep); kept = omega (arith, h.kept) }
-
--- a result of `identifier`
-pub name_read : {out : Out Text W.Identified} {text : Text} {at : ℕ} {w : Words} {r : NameRead} (c : Cursor) → r ≡ NameRead.Read c → Answers.Answered out text at r w → Answers.Reads out text at w c
-name_read {out} {text} {at} {w} c e h = subst (λ (x : NameRead). Answers.Answered out text at x w) e h
-
-pub name_unread : {out : Out Text W.Identified} (text : Text) (at : ℕ) (w : Words) {r : NameRead} (x : Refusal) → r ≡ NameRead.Refused x → Answers.Answered out text at r w → out ≡ refused (number x)
-name_unread {out} text at w x e h = subst (λ (y : NameRead). Answers.Answered out text at y w) e h

@@ -29,23 +29,21 @@ use Rattle.machine.proofs.budget.Charging.{charge_room, charged_to}
 use Rattle.text_cursor.specs.declared.Cursor.{Cursor}
 use Rattle.text_cursor.proofs.Steps.{front}
 use Rattle.operator_names.specs.Fixed.{fixed}
-use Rattle.operator_operands.specs.OperatorReads.{Stands}
-use Rattle.operator_letters.specs.OperatorsRead.{Begun, OpensChain}
-use Rattle.operator_operands.specs.declared.OperatorRead.{OperatorRead}
-use Rattle.operator_operands.specs.declared.OperatorRead.TheVariants as OperatorRead
+use Rattle.text_cursor.specs.Reads.{rest, Stands}
+use Rattle.text_cursor.specs.declared.Reader.{Reader}
+use Rattle.operator_letters.specs.OperatorsRead.{first_operator, OpensChain}
+use Rattle.operator_letters.proofs.Choices.{first_is}
 use Rattle.operator_substitutions.proofs.ChainLaws.{operator_chain}
 use Rattle.tree_records.specs.Holds.{Names, Spare, Holds}
 use Rattle.tree_records.specs.declared.State.{State}
 use Rattle.tree_nodes.specs.Gives.{nothing_spare, full_spare, Operates}
-use Rattle.tree_nodes.specs.declared.Step.{Step as Stepped}
+use Rattle.tree_nodes.specs.Results.{Step as Stepped}
 use Rattle.machine.specs.Beyond.{beyond_itself}
 use Rattle.tree_nodes.proofs.Taking.{less_spare}
 use Rattle.tree_records.specs.NamesOf.{names_of}
 use Rattle.tree_run.specs.Turns.{Reads, Came, Fails, Turning, performs, chained, Performed, step_and_charge, Charged, Begins}
 use Rattle.tree_run.specs.declared.turns.Turned.{Turned}
-use Rattle.tree_run.specs.declared.turns.Turned.TheVariants as Turned
 use Rattle.tree_run.specs.declared.turns.Begun.{Begun as Beginning}
-use Rattle.tree_run.specs.declared.turns.Begun.TheVariants as Beginning
 
 -- THE BEGINNING OF A TURN
 step_total : (b c : B.Budget) → B.step b ≡ ok tt c → c.total ≡ b.total
@@ -155,57 +153,51 @@ module _ (N : ℕ) where
         ap (λ (t : Text). Reading.one N t m) (front text at h) ∙ (begins_digit (get_or text at 0) (drop (at + 1) text) e m
         ∙ ap (λ (t : Text). then_run (W.identifier m.words t) (λ x. Reading.name N x.name x.words) m) (sym (front text at h)))
 
-    one_operator : digit (get_or text at 0) ≡ false → Reading.one N (drop at text) ≡ performs N (Op.operator (get_or text at 0) (drop (at + 1) text))
-    one_operator e = ap (Reading.one N) (front text at h) ∙ begins_other (get_or text at 0) (drop (at + 1) text) e
+    one_operator : digit (get_or text at 0) ≡ false → Reading.one N (drop at text) ≡ performs N (first_operator (drop at text))
+    one_operator e =
+        ap (Reading.one N) (front text at h) ∙ (begins_other (get_or text at 0) (drop (at + 1) text) e
+        ∙ ap (performs N) (sym (first_is text at h)))
+
+  -- the answers about an operator that a reader read from `old` on
+  module _ (old : Reader) (w w₁ : List ℕ) (st : State) where
+    by_operator : (f : Run Text) → Reading.one N (rest old) ≡ f → (sp : Spare) (r : Turned) → Turning f sp old.text.now w w₁ N st r → Turning (Reading.one N (rest old)) sp old.text.now w w₁ N st r
+    by_operator f k sp r g = subst (λ (x : Run Text). Turning x sp old.text.now w w₁ N st r) (sym k) g
+
+    -- an operator that was read and performed
+    did : (op : Operator) (next : Cursor) → first_operator (rest old) ≡ ok (Enums.operator fixed op) (drop next.at old.text.now) → next.at ≤ length old.text.now → (r : Turned) → Performed (λ names. R.perform N (Enums.operator names op)) w w₁ N st next r → Turning (performs N (first_operator (rest old))) full_spare old.text.now w w₁ N st r
+    unfolding then_run
+    did op next i l (Turned.To u c) g = record {
+      comes = λ words m h.
+          let nm : Names = names_of old.text.now words in
+          let o = g.0.runs nm m nm.known h in
+          record { machine = o.machine; is = rw (i, o.is, g.1) refl; holds = o.holds };
+      inside = rw g.1 l;
+      beyond = record { past = g.0.past; long = g.0.long };
+    }
+    did op next i l (Turned.Refused x) g = record {
+      fails = λ words m h. let nm : Names = names_of old.text.now words in rw (i, g.runs nm m nm.known h) refl;
+      beyond = record { past = g.past; long = g.long };
+    }
 
     -- `A`
-    one_chain : digit (get_or text at 0) ≡ false → {next : Cursor} → OpensChain (get_or text at 0) at next → Reading.one N (drop at text) ≡ chained N text next.at
-    one_chain e o =
-        one_operator e ∙ (ap (λ (b : ℕ). performs N (Op.operator b (drop (at + 1) text))) o.letter
-        ∙ (ap (performs N) (operator_chain (drop (at + 1) text)) ∙ ap (λ (k : ℕ). chained N text k) (sym o.next)))
+    pub is_chain : (new : Reader) → OpensChain old new → (r : Turned) → Turning (chained N old.text.now new.at) nothing_spare old.text.now w w₁ N st r → Turning (Reading.one N (rest old)) full_spare old.text.now w w₁ N st r
+    is_chain new o r g =
+        by_operator (chained N old.text.now new.at)
+        (ap (Reading.one N) (rw o.text at o.letter) ∙ (begins_other 65 (drop new.at old.text.now) refl ∙ ap (performs N) (operator_chain (drop new.at old.text.now)))) full_spare r (more_spare r g)
+      where
+        more_spare : (r : Turned) → Turning (chained N old.text.now new.at) nothing_spare old.text.now w w₁ N st r → Turning (chained N old.text.now new.at) full_spare old.text.now w w₁ N st r
+        more_spare (Turned.To u c) a = record { comes = λ words m h. a.comes words m (less_spare full_spare nothing_spare (omega arith) (omega arith) (omega arith) (omega arith) h); inside = a.inside; beyond = a.beyond }
+        more_spare (Turned.Refused x) a = record { fails = λ words m h. a.fails words m (less_spare full_spare nothing_spare (omega arith) (omega arith) (omega arith) (omega arith) h); beyond = a.beyond }
 
-    -- THE ANSWERS
-    module _ (w w₁ : List ℕ) (st : State) (e : digit (get_or text at 0) ≡ false) (q : OperatorRead) (b : Begun (get_or text at 0) (Op.operator (get_or text at 0) (drop (at + 1) text)) text at q) where
-      by_operator : (f : Run Text) → Reading.one N (drop at text) ≡ f → (sp : Spare) (r : Turned) → Turning f sp text w w₁ N st r → Turning (Reading.one N (drop at text)) sp text w w₁ N st r
-      by_operator f k sp r g = subst (λ (x : Run Text). Turning x sp text w w₁ N st r) (sym k) g
+    module _ (h : old.at < length old.text.now) (e : digit (get_or old.text.now old.at 0) ≡ false) where
+      pub is_operator : (op : Operator) (new : Reader) → Stands (first_operator (rest old)) (Enums.operator fixed op) 1 old new → (r : Turned) → Performed (λ names. R.perform N (Enums.operator names op)) w w₁ N st (record { at = new.at }) r → Turning (Reading.one N (rest old)) full_spare old.text.now w w₁ N st r
+      is_operator op new s r g =
+          by_operator (performs N (first_operator (rest old))) (one_operator old.text.now old.at h e) full_spare r
+          (did op (record { at = new.at }) (rw s.text at s.is) (rw s.text at s.inside) r g)
 
-      -- an operator that was read and performed
-      did : (op : Operator) (next : Cursor) → Op.operator (get_or text at 0) (drop (at + 1) text) ≡ ok (Enums.operator fixed op) (drop next.at text) → next.at ≤ length text → (r : Turned) → Performed (λ names. R.perform N (Enums.operator names op)) w w₁ N st next r → Turning (performs N (Op.operator (get_or text at 0) (drop (at + 1) text))) full_spare text w w₁ N st r
+      pub is_refused : (x : Refusal) → first_operator (rest old) ≡ refused (number x) → Fails (Reading.one N (rest old)) full_spare old.text.now w w N st x
       unfolding then_run
-      did op next i l (Turned.To u c) g = record {
-        comes = λ words m h.
-            let nm : Names = names_of text words in
-            let o = g.0.runs nm m nm.known h in
-            record { machine = o.machine; is = rw (i, o.is, g.1) refl; holds = o.holds };
-        inside = rw g.1 l;
-        beyond = record { past = g.0.past; long = g.0.long };
-      }
-      did op next i l (Turned.Refused x) g = record {
-        fails = λ words m h. let nm : Names = names_of text words in rw (i, g.runs nm m nm.known h) refl;
-        beyond = record { past = g.past; long = g.long };
-      }
-
-      pub is_operator : (op : Operator) (next : Cursor) → q ≡ OperatorRead.Read op next → (r : Turned) → Performed (λ names. R.perform N (Enums.operator names op)) w w₁ N st next r → Turning (Reading.one N (drop at text)) full_spare text w w₁ N st r
-      is_operator op next k r g =
-          let o : Out Text Op.Operator = Op.operator (get_or text at 0) (drop (at + 1) text) in
-          let s : Stands o (Enums.operator fixed op) text (at + 1) next = subst (Begun (get_or text at 0) o text at) k b in
-          by_operator (performs N o) (one_operator e) full_spare r (did op next s.is s.inside r g)
-
-      pub is_chain : (next : Cursor) → q ≡ OperatorRead.Substitutions next → (r : Turned) → Turning (chained N text next.at) nothing_spare text w w₁ N st r → Turning (Reading.one N (drop at text)) full_spare text w w₁ N st r
-      is_chain next k r g =
-          let o : OpensChain (get_or text at 0) at next = subst (Begun (get_or text at 0) (Op.operator (get_or text at 0) (drop (at + 1) text)) text at) k b in
-          by_operator (chained N text next.at) (one_chain e o) full_spare r (more_spare r g)
-        where
-          more_spare : (r : Turned) → Turning (chained N text next.at) nothing_spare text w w₁ N st r → Turning (chained N text next.at) full_spare text w w₁ N st r
-          more_spare (Turned.To u c) a = record { comes = λ words m h. a.comes words m (less_spare full_spare nothing_spare (omega arith) (omega arith) (omega arith) (omega arith) h); inside = a.inside; beyond = a.beyond }
-          more_spare (Turned.Refused x) a = record { fails = λ words m h. a.fails words m (less_spare full_spare nothing_spare (omega arith) (omega arith) (omega arith) (omega arith) h); beyond = a.beyond }
-
-    pub is_refused : (w : List ℕ) (st : State) (x : Refusal) (q : OperatorRead) → digit (get_or text at 0) ≡ false → Begun (get_or text at 0) (Op.operator (get_or text at 0) (drop (at + 1) text)) text at q → q ≡ OperatorRead.Refused x → Fails (Reading.one N (drop at text)) full_spare text w w N st x
-    unfolding then_run
-    is_refused w st x q e b k =
-        let o : Out Text Op.Operator = Op.operator (get_or text at 0) (drop (at + 1) text) in
-        let n : o ≡ refused (number x) = subst (Begun (get_or text at 0) o text at) k b in
-        record { fails = λ words m h. ap (λ (f : Run Text). f m) (one_operator e) ∙ rw n refl; beyond = beyond_itself w N }
+      is_refused x n = record { fails = λ words m q. ap (λ (f : Run Text). f m) (one_operator old.text.now old.at h e) ∙ rw n refl; beyond = beyond_itself w N }
 
 -- a match arm
 pub operated_as : {f : (ℕ → String) → Run Done} {w w₁ : List ℕ} {N : ℕ} {st : State} {r : Stepped} (s : Stepped) → r ≡ s → Operates f w w₁ N st r → Operates f w w₁ N st s

@@ -1,6 +1,7 @@
 -- What there is to spare while a list is taken.
 use mathlib.Core.Bool.{Bool}
 use mathlib.Core.List.{List}
+use mathlib.Core.Option.{Option}
 use Prim.Native.Nat.{ℕ, ◌+◌, ◌≤◌}
 use native.Mathlib.Omega.{arith}
 use Rattle.definition.specs.Node.{Node, nil, size, sizes, many}
@@ -8,13 +9,15 @@ use Rattle.definition.specs.Perform.{Run}
 use Rattle.tree_records.specs.Lies.{at}
 use Rattle.tree_records.specs.Holds.{Spare, Ready}
 use Rattle.tree_records.specs.declared.State.{State}
-use Rattle.tree_nodes.specs.Gives.{taken, Gives, Marks}
-use Rattle.tree_nodes.specs.declared.Marked.{Marked}
+use Rattle.tree_nodes.specs.Gives.{taken, Gives, GivesIf, Marks}
+use Rattle.tree_nodes.specs.Results.{Marked}
 use Rattle.tree_nodes.proofs.Taking.{less_spare, keeps_itself}
 use Rattle.tree_nodes.proofs.Ready.{room}
-use Rattle.tree_types.specs.Cells.{grown, Gathering, CellFits, Labels}
+use Rattle.tree_records.specs.Trees.{Reads}
+use Rattle.tree_records.specs.declared.Trees.{Trees}
+use Rattle.tree_nodes.specs.Trees.{Marks as Marks-in}
+use Rattle.tree_types.specs.Cells.{LabelTaken, grown, Gathering, CellFits, Labels}
 use Rattle.tree_types.specs.declared.cells.Chain.{Chain}
-use Rattle.tree_types.specs.declared.cells.LabelTaken.{LabelTaken}
 use Rattle.tree_types.proofs.cells.Cells.{listed_moves, listed_nil}
 
 module _ {w : List ℕ} {N : ℕ} {st : State} {sp : Spare} {l : Chain} where
@@ -75,3 +78,22 @@ module _ {f : Run Node} {gain : ℕ} {w w' : List ℕ} {N : ℕ} {st u : State} 
     sum = omega (arith, taken_sum);
     count = omega (arith, gathering_count b);
   }
+
+-- after a tree that was tried for
+pub tried_fits : {f : Run (Option Node)} {w : List ℕ} {N : ℕ} {st u : State} {p : ℕ} {sp : Spare} {l : Chain} → GivesIf f w N st p u → Gathering w N st sp l → CellFits w N u l p
+tried_fits {f} {w} {N} {st} {u} {p} {sp} g b =
+    let t = g.gives b.names (grown b.list sp) b.machine b.holds in
+    let h = t.holds in
+    record {
+      inside = record { small = h.small; long = h.long; charged = h.charged; room = omega (arith, h.room); deep = omega (arith, h.deep); kept = omega (arith, h.kept) };
+      below = g.below;
+      sum = omega (arith, h.small, h.charged, h.light, t.lies.size_is, b.listed.sizes_is);
+      count = omega (arith, gathering_count b);
+    }
+
+-- ON `Trees`
+pub chain_marked : {t t' : Trees} {f : Run Bool} {b : Bool} {sp : Spare} {l : Chain} → Reads t t' → Marks-in f t t' b → Gathering t.ws.now t.n t.state sp l → Gathering t'.ws.now t'.n t'.state sp l
+chain_marked s k g = rw (s.slice, s.ceiling) (gathering_marked k g)
+
+pub chain_labelled : {t t' : Trees} {k : ℕ} {sp : Spare} {l : Chain} → Reads t t' → Labels t.ws.now t.n t.state (record { label = k; next = t'.state }) → Gathering t.ws.now t.n t.state sp l → Gathering t'.ws.now t'.n t'.state sp l
+chain_labelled s k g = rw (s.slice, s.ceiling) (gathering_labelled k g)

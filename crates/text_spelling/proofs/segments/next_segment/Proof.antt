@@ -8,7 +8,7 @@ use native.Mathlib.Nat.{le_refl}
 use lib.ListN.{length, get_or, drop}
 use borrow.Author.Rules.{rules}
 use Rattle.definition.specs.Base.{lower, upper}
-use Rattle.text_words.specs.Table.{table, lent}
+use Rattle.text_words.specs.Table.{table}
 use Rattle.text_spelling.specs.Segments.{literal_segment, segment_of}
 use Rattle.text_spelling.proofs.segments.Steps.{segment_is, segment_small, segment_capital, segment_other, segment_past, segment_plain, small_low, small_high, capital_low, capital_high}
 use Rattle.text_spelling.proofs.segments.next_segment.Statement.{statement}
@@ -40,7 +40,7 @@ word-requires c κs = search rules
 
 returns : tie.Need-returns-then-is_lower
 returns c =
-    let words = table c.args.text.now (lent c.args.starts.now c.args.lengths.now c.args.known) in
+    let words = table c.args.text.now c.args.known.now in
     let l : c.args.s.at + 1 ≤ length c.args.text.now = omega (arith, c.if-at-text.true) in
     segment_is c.args.text.now c.args.s.punycoded
     (ap (λ (b : Bool). segment_of words b c.args.s.punycoded (drop c.args.s.at c.args.text.now)) c.if-more.true
@@ -64,7 +64,7 @@ word-requires-2 c κs = search rules
 
 returns-2 : tie.Need-returns-then-is_upper
 returns-2 c =
-    let words = table c.args.text.now (lent c.args.starts.now c.args.lengths.now c.args.known) in
+    let words = table c.args.text.now c.args.known.now in
     let l : c.args.s.at + 1 ≤ length c.args.text.now = omega (arith, c.if-at-text.true) in
     segment_is c.args.text.now c.args.s.punycoded
     (ap (λ (b : Bool). segment_of words b c.args.s.punycoded (drop c.args.s.at c.args.text.now)) c.if-more.true
@@ -76,7 +76,7 @@ literal-requires c κs = search rules
 
 returns-3 : tie.Need-returns
 returns-3 c =
-    let words = table c.args.text.now (lent c.args.starts.now c.args.lengths.now c.args.known) in
+    let words = table c.args.text.now c.args.known.now in
     let text = c.args.text.now in
     let at = c.args.s.at in
     let p = c.args.s.punycoded in

@@ -25,20 +25,20 @@ enum-known-r : tie.Need-enum_known-r
 enum-known-r c = search rules
 
 -- src/lib.rt:172:24
-enum-known-r-2 : tie.Need-enum_known-r-in-Refused-step
+enum-known-r-2 : tie.Need-enum_known-r-in-Err-step
 enum-known-r-2 c = search rules
 
 -- src/lib.rt:158:1
-returns : tie.Need-returns-in-Left-charge
-returns c = begin_charged _ _ _ (spent_left _ c.in-Left.is c.step.ensures) _ (spent_left _ c.in-Left-charge.is c.charge.ensures)
+returns : tie.Need-returns-in-Ok-charge
+returns c = begin_charged _ _ _ (spent_left _ c.in-Ok.is c.step.ensures) _ (spent_left _ c.in-Ok-charge.is c.charge.ensures)
 
 -- src/lib.rt:158:1
-returns-2 : tie.Need-returns-in-Refused-charge
-returns-2 c = begin_uncharged _ _ _ (spent_left _ c.in-Left.is c.step.ensures) _ (spent_refused _ c.in-Refused-charge.is c.charge.ensures)
+returns-2 : tie.Need-returns-in-Err-charge
+returns-2 c = begin_uncharged _ _ _ (spent_left _ c.in-Ok.is c.step.ensures) _ (spent_refused _ c.in-Err-charge.is c.charge.ensures)
 
 -- src/lib.rt:158:1
-returns-3 : tie.Need-returns-in-Refused
-returns-3 c = begin_stopped _ _ _ (spent_refused _ c.in-Refused.is c.step.ensures)
+returns-3 : tie.Need-returns-in-Err
+returns-3 c = begin_stopped _ _ _ (spent_refused _ c.in-Err.is c.step.ensures)
 
 pub begin_spec : {M : Type 1} → statement M
 begin_spec =

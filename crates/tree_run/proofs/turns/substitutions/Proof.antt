@@ -5,7 +5,6 @@ use lib.ListN.{length}
 use Rattle.tree_run.proofs.turns.ChainSteps.{Chaining, chain_first, chain_more, chain_last, chain_refused, went_on, was_last, was_refused}
 use Rattle.tree_run.proofs.turns.substitutions.Statement.{statement}
 use Rattle.tree_run.proofs.turns.substitutions.Tie as tie
-use Rattle.tree_run.proofs.turns.substitutions.Reads as reads
 
 abbrev invariant-loop : tie.invariant-loop-u
 invariant-loop text ws₀ n left₀ c₀ ws left c = Chaining n text c₀.at c.at ws₀ ws left₀ left

@@ -1,13 +1,14 @@
 -- The text has no ill-formed sequence, and no words fit any text.
 use Rattle.std.proofs.Common.{rules}
 use Rattle.text_utf8.proofs.Characters.{well_formed_all}
+use Rattle.text_words.proofs.Keeping.{fitting_none}
 use Rattle.vectors.proofs.readers.run_words.Goals as goal
 
 pub identifiers-requires : goal.identifiers-requires
-identifiers-requires c = (search rules, search rules, (c.new.ensures c.args.text.now).1, well_formed_all c.args.text.now c.in-Nowhere.ensures)
+identifiers-requires c = (search rules, search rules, fitting_none c.args.text.now c.new.result c.new.ensures, well_formed_all c.args.text.now c.in-None.ensures)
 
 pub spelled-requires : goal.spelled-requires
-spelled-requires c = (search rules, search rules, (c.new-in-112.ensures c.args.text.now).1, well_formed_all c.args.text.now c.in-Nowhere.ensures)
+spelled-requires c = (search rules, search rules, fitting_none c.args.text.now c.new-in-112.result c.new-in-112.ensures, well_formed_all c.args.text.now c.in-None.ensures)
 
 pub counted-requires : goal.counted-requires
-counted-requires c = (search rules, search rules, well_formed_all c.args.text.now c.in-Nowhere.ensures)
+counted-requires c = (search rules, search rules, well_formed_all c.args.text.now c.in-None.ensures)

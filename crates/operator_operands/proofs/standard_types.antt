@@ -1,2 +1,0 @@
-pub mod StandardTables
-pub mod StandardSteps
