@@ -7,6 +7,7 @@ ghost use Rattle.print_names.specs.Naming.{Some, Alone, naming_of};
 ghost use Rattle.print_labels.specs.RowTexts.{World, Prints, rows, zero_or, record_form};
 ghost use Rattle.print_forms.specs.Forms.{Standard, Sugars, FormIs, Rowed};
 
+use machine::kinds::Kind;
 use print_labels::get;
 use print_names::{Source, named_is};
 use tree_records::field;
@@ -100,31 +101,31 @@ fn form(from: &Source, p: usize) -> usize
     if kind < 12 {
         return kind;
     }
-    if kind == 12 {
+    if kind == Kind::GenericSignature as usize {
         let requirements = get(from.ws, p, 5);
         return zero_or(requirements, 12, 40);
     }
-    if kind == 15 {
+    if kind == Kind::ProtocolList as usize {
         let members = get(from.ws, p, 2);
         return zero_or(members, 15, 41);
     }
-    if kind == 18 {
+    if kind == Kind::BoundGeneric as usize {
         let s = sugar(from, p);
         return zero_or(s, 18, 41 + s);
     }
-    if kind == 21 {
+    if kind == Kind::Accessor as usize {
         let variable = get(from.ws, p, 4);
         let below = get(from.ws, variable, 0);
-        if below == 20 {
+        if below == Kind::Variable as usize {
             return 45;
         }
         return 21;
     }
-    if kind == 23 {
+    if kind == Kind::Deinitializer as usize {
         let deallocating = get(from.ws, p, 3);
         return zero_or(deallocating, 23, 35);
     }
-    if kind == 26 {
+    if kind == Kind::Record as usize {
         let words = get(from.ws, p, 3);
         return record_form(words);
     }
