@@ -57,26 +57,30 @@ def blocks(text, head):
 
 
 def functions(text):
-    """Each function: (line, name, signature and clauses, body)."""
-    head = r"^ *(?:pub(?:\(crate\))? )?(?:const )?fn (\w+)"
+    """Each function: (line, name, signature and clauses, body).
+
+    A line of the signature ends with `{` where the body begins, or with `;` where there is none: a
+    trait's method that is only declared has its own clauses and an empty body.
+    """
+    head = r"^( *)(?:pub(?:\(crate\))? )?(?:const )?(?:extern \"C\" )?fn (\w+)"
     for m in re.finditer(head, text, re.M):
-        indent = len(m.group(0)) - len(m.group(0).lstrip())
-        rest = text[m.start():]
-        opened = re.search(r"^ {%d}\{$|\{$" % indent, rest, re.M)
-        body_at = None
-        for o in re.finditer(r"^ {%d}\{\n|^.*\) (?:-> [^{}]* )?\{\n" % indent, rest, re.M):
-            body_at = o.end()
-            break
-        if body_at is None:
-            continue
-        end = re.search(r"^ {%d}\}$" % indent, rest[body_at:], re.M)
-        if not end:
-            continue
-        yield line_of(text, m.start()), m.group(1), rest[:body_at], rest[body_at:body_at + end.start()]
+        end = m.start()
+        for row in text[m.start():].splitlines(keepends=True):
+            end += len(row)
+            clause = re.match(r"\s*(?:requires|ensures|decreases)\b", row)
+            if row.rstrip().endswith("};" if clause else ("{", ";")):
+                break
+        signature = text[m.start():end]
+        body = ""
+        if not signature.rstrip().endswith(";"):
+            closed = re.search(r"^%s\}$" % m.group(1), text[end:], re.M)
+            body = text[end:end + closed.start()]
+        yield line_of(text, m.start()), m.group(2), signature, body
 
 
 def shape(body):
-    tokens = re.findall(r"[A-Za-z_]\w*|\d\w*|b'.'|\"[^\"]*\"|[^\sA-Za-z_0-9]", re.sub(r"//.*", "", body))
+    token = r"b'(?:\\.|[^'])'|b?\"[^\"]*\"|[A-Za-z_]\w*|\d\w*|[^\sA-Za-z_0-9]"
+    tokens = re.findall(token, re.sub(r"//.*", "", body))
     keep = {"if", "else", "match", "while", "loop", "for", "return", "let", "mut", "in"}
     return tuple(t if t in keep or not re.match(r"[A-Za-z_0-9]|b'|\"", t) else "x" for t in tokens)
 
@@ -123,7 +127,8 @@ def point2():
             s = shape(body)
             if len(s) >= 12:
                 by_shape[s].append((path, line, name))
-            by_name[name].append((path, line, name))
+            if body:
+                by_name[name].append((path, line, name))
     for s, where in by_shape.items():
         for path, line, name in where[1:]:
             yield "the same shape as another function", path, line, f"{name} as {where[0][2]} ({where[0][0]})"
@@ -137,9 +142,9 @@ def point2():
 def point3():
     for path, text in sources():
         for i, line in enumerate(text.split("\n"), 1):
-            if re.match(r"\s*while ", line):
+            if re.match(r"\s*(?:'\w+: )?while ", line):
                 yield "while", path, i, line.strip()
-            elif re.match(r"\s*loop \{", line):
+            elif re.match(r"\s*(?:'\w+: )?loop \{", line):
                 yield "loop", path, i, line.strip()
 
 
@@ -161,7 +166,7 @@ def point4():
 
 
 def clause_facts(head):
-    for clause in re.findall(r"^\s*requires(?: \w+)? \{ (.*) \}$", head, re.M):
+    for clause in re.findall(r"^\s*requires(?: \w+)? \{ (.*) \};?$", head, re.M):
         for fact in re.split(r" × ", clause):
             yield fact.strip("() ")
 

@@ -6,7 +6,7 @@ use Prim.Native.Nat.{ℕ, ◌-◌, ◌*◌, ◌≤◌, ◌<◌}
 use native.Mathlib.Omega.{arith}
 use native.Mathlib.Nat.{le_trans, mul-le-mul_right}
 use lib.Dec.{leb, ltb, leb→le, le→leb, lt→ltb, not_T}
-use lib.ListN.{length}
+use lib.ListN.{length, take, drop, length-drop}
 use lib.Seq.{take_all, drop-length}
 use Rattle.definition.specs.Base.{given}
 use Rattle.definition.specs.Text as Text
@@ -19,10 +19,10 @@ use Rattle.definition.proofs.SameText.{passed, failed}
 use Rattle.machine.specs.declared.runs.Final.{Final}
 use Rattle.text_symbols.specs.Symbol as Symbols
 use Rattle.call_admission.proofs.Bodies.{body_well_formed}
-use Rattle.call_admission.specs.Admits.{framed, Body, Refused, Frames, Admits}
-use Rattle.std.specs.Prelude.{Result, Ok, Err}
+use Rattle.call_admission.specs.Admits.{framed, Framed, Body, Refused, Frames}
+use Rattle.std.specs.Prelude as Std
+use Rattle.std.specs.Prelude.{Some, None}
 use Rattle.text_symbols.specs.declared.Parts.{Parts}
-use Rattle.call_admission.specs.declared.Refused.{Refused as RefusedAt}
 
 -- 5
 whole : (t : Text) → whole_text t ≡ Symbols.symbol t 0 (length t)
@@ -34,26 +34,27 @@ module _ {what : Final} (t : Text) where
   symbol_not e h = subst (λ (x : Final). Refused (framed x t) Refusal.Prefix 0) (sym e) (record { is = λ read. ap (λ (o : Option Symbol). given o (refusal 5 0) read) h })
 
   module _ (w : Text.well_formed t ≡ true) where
-    pub symbol_parts : (start end : ℕ) → what ≡ Final.Symbol → Symbols.Parts (split t) t start end → Body (framed what t) t start end
+    symbol_parts : (start end : ℕ) → what ≡ Final.Symbol → Symbols.Parts (split t) t start end → Framed (framed what t) t start end
     unfolding symbol
-    symbol_parts start end e h = subst (λ (x : Final). Body (framed x t) t start end) (sym e) (record {
-      is = λ read. ap (λ (o : Option Symbol). given o (refusal 5 0) read) h.is;
+    symbol_parts start end e h = subst (λ (x : Final). Framed (framed x t) t start end) (sym e) (record {
+      body = record { is = λ read. ap (λ (o : Option Symbol). given o (refusal 5 0) read) h.is };
       order = h.order;
       inside = h.inside;
       encoded = body_well_formed t h.is w;
     })
 
-    pub type_whole : what ≡ Final.Type → Body (framed what t) t 0 (length t)
-    type_whole e = subst (λ (x : Final). Body (framed x t) t 0 (length t)) (sym e) (record {
-      is = λ read. ap read (whole t);
+    -- the parts of a symbol, or refusal 5
+    pub symbol_framed : what ≡ Final.Symbol → (o : Std.Option Parts) → Symbols.SplitIs (split t) t o → Frames (framed what t) t o
+    symbol_framed e (Some p) h = symbol_parts p.start p.end e h
+    symbol_framed e None h = symbol_not e h
+
+    pub type_whole : what ≡ Final.Type → Framed (framed what t) t 0 (length t)
+    type_whole e = subst (λ (x : Final). Framed (framed x t) t 0 (length t)) (sym e) (record {
+      body = record { is = λ read. ap read (whole t) };
       order = omega arith;
       inside = omega arith;
       encoded = ap Text.well_formed (take_all (length t - 0) t (omega arith)) ∙ w;
     })
-
--- what is refused at the start of the text
-pub refused_start : {before : (Symbol → Calls.Answer) → Calls.Answer} {r : Refusal} (x : RefusedAt) → (x.refusal ≡ r) × (x.at ≡ 0) → Refused before r 0 → Refused before x.refusal x.at
-refused_start {before} x e h = subst (λ (y : Refusal). Refused before y x.at) (sym e.0) (subst (Refused before _) (sym e.1) h)
 
 -- 1 to 4, by the outcome of each test
 outcome : (ceiling long short : Bool) → Option ℕ → Calls.Answer → Calls.Answer
@@ -120,12 +121,16 @@ module _ (what : Final) (need N w : ℕ) (t : Text) where
         unfolding outcome
         passes h a = tested ceiling_is long_is short_is h a
 
-        pub well_formed : ill_formed t ≡ none → (r : Result Parts RefusedAt) → Frames (framed what t) t r → Admits what need N w t r
-        well_formed h (Ok p) b = (
-          record { is = λ read. passes h (framed what t read) ∙ b.is read; order = b.order; inside = b.inside; encoded = b.encoded },
-          record { small = small; long = long; short = short },
-        )
-        well_formed h (Err x) b = record { is = λ read. passes h (framed what t read) ∙ b.is read }
+        -- 5, or what is read
+        pub read_from : ill_formed t ≡ none → (start end : ℕ) → end ≤ length t → Framed (framed what t) t start end →
+            Body (λ read. admit need N w t (framed what t read)) (record { start = start; body = take (end - start) (drop start t); suffix = take (length t - end) (drop end t) })
+        read_from h start end l b = record {
+          is = λ read. passes h (framed what t read) ∙ b.body.is read
+              ∙ ap (λ (u : Text). read (record { start = start; body = take (end - start) (drop start t); suffix = u })) (sym (take_all (length t - end) (drop end t) (omega (arith, length-drop end t))));
+        }
+
+        pub no_body : ill_formed t ≡ none → Refused (framed what t) Refusal.Prefix 0 → Fails Refusal.Prefix 0
+        no_body h b = record { is = λ read. passes h (framed what t read) ∙ b.is read }
 
 -- what a call needs fits a number of 64 bits
 pub needed : (need N : ℕ) → need ≤ 64 → N ≤ 65536 → need * N ≤ 4194304

@@ -2,11 +2,15 @@
 // text that is read.
 #![tactic(auto)]
 
+// What is read.
+pub mod admitted;
+
 ghost use Rattle.std.specs.Prelude.{◌≡◌, true, ◌≤◌};
 ghost use Rattle.definition.specs.Text as Text;
 ghost use Rattle.call_admission.specs.Admits.{framed, Frames, Admits};
 
-use definition::Refusal;
+use crate::admitted::Admitted;
+use definition::{Refusal, Refused};
 use machine::budget::Budget;
 use machine::runs::Final;
 use text_symbols::Parts;
@@ -14,30 +18,14 @@ use text_symbols::Parts;
 // The longest text that is read.
 const MOST_BYTES: usize = 65535;
 
-// A text that is refused before a run, at a place.
-#[derive(Clone, Copy)]
-pub struct Refused {
-    pub refusal: Refusal,
-    pub at: usize,
-}
-
-impl Refused {
-    fn at_start(refusal: Refusal) -> Refused
-        ensures { (result.refusal ≡ refusal) × (result.at ≡ 0) }
-    {
-        Refused { refusal, at: 0 }
-    }
-}
-
-// Returns the body of a symbol, or the whole text of a type. The text is well-formed. Refusal 5:
-// there is no body.
-fn body_of(text: &[u8], what: Final) -> Result<Parts, Refused>
+// Returns the parts of a symbol; all of a type is its body.
+fn parts_of(text: &[u8], what: Final) -> Option<Parts>
     requires { Text.well_formed text.now ≡ true }
     ensures { Frames (framed what text.now) text.now result }
 {
     match what {
-        Final::Symbol => text_symbols::split(text).ok_or(Refused::at_start(Refusal::Prefix)),
-        Final::Type => Ok(Parts {
+        Final::Symbol => text_symbols::split(text),
+        Final::Type => Some(Parts {
             start: 0,
             end: text.len(),
         }),
@@ -45,14 +33,14 @@ fn body_of(text: &[u8], what: Final) -> Result<Parts, Refused>
 }
 
 // Makes the checks 1 to 5, in order, for a call that needs `need` numbers of workspace for each
-// node. Returns the parts of the text, of which text[start..end] is read and is well-formed.
+// node. Refusal 5: a symbol has no body.
 pub fn admit(
     text: &[u8],
     what: Final,
     ceiling: usize,
     need: usize,
     numbers: usize,
-) -> Result<Parts, Refused>
+) -> Result<Admitted, Refused>
     requires { need ≤ 64 }
     ensures { Admits what need ceiling numbers text.now result }
 {
@@ -65,11 +53,19 @@ pub fn admit(
     if MOST_BYTES < text.len() {
         return Err(Refused::at_start(Refusal::Length));
     }
-    if let Some(at) = text_utf8::ill_formed(text) {
+    if let Some(place) = text_utf8::ill_formed(text) {
         return Err(Refused {
             refusal: Refusal::Encoding,
-            at,
+            place,
         });
     }
-    body_of(text, what)
+    let Some(Parts { start, end }) = parts_of(text, what) else {
+        return Err(Refused::at_start(Refusal::Prefix));
+    };
+    Ok(Admitted {
+        ceiling,
+        start,
+        body: &text[start..end],
+        suffix: &text[end..],
+    })
 }

@@ -11,12 +11,12 @@ use lib.ListN.{length, take, length-take}
 use Rattle.definition.specs.Base.{same}
 use Rattle.definition.specs.Text.{Text}
 use Rattle.definition.specs.Calls as Calls
-use Rattle.definition.specs.Calls.{refusal, within, reading_needs, check_needs}
+use Rattle.definition.specs.Calls.{refusal, within, admit, reading_needs, check_needs}
 use Rattle.definition.specs.Reading as Reading
 use Rattle.definition.specs.Check as Check
 use Rattle.definition.specs.Alike.{enough, with_text}
 use Rattle.definition.specs.Enums.{values}
-use Rattle.definition.specs.declared.Answer.{Answer}
+use Rattle.definition.specs.Enums.{Answer}
 use Rattle.definition.proofs.SameText.{passed, both, same_refl}
 use Rattle.definition.proofs.JudgingAlike.{judging_alike}
 use Rattle.call_endings.specs.Answers.{Answers}
@@ -24,9 +24,13 @@ use Rattle.machine.specs.Beyond.{beyond_itself, beyond_both}
 use Rattle.call_endings.specs.Workspace.{early, Scratch}
 use Rattle.call_endings.proofs.Runs.{Plain}
 use Rattle.call_endings.proofs.Users.{Wrote, wrote, symbol_read_plain, type_read_plain, symbol_shape_plain, type_shape_plain, symbol_read_k_plain, type_read_k_plain, symbol_check_k_plain, type_check_k_plain}
+use Rattle.call_admission.specs.Admits.{framed}
+use Rattle.machine.specs.declared.runs.Final.{Final}
+use Rattle.swift_demangle.specs.Calls.{read_whole, read_stopped}
+use Rattle.swift_shape.specs.Calls.{check_whole, check_stopped}
 use Rattle.call_values.specs.Agreement.{same_values, same_answer, due, whole_agree, with_length, values_due, values_agree, judged}
 use Rattle.call_values.proofs.agreement.Compared.{values_equal, one_length, equal_answers, due_refused, due_accepted, due_too_long, alike_agree, values_due_accepted}
-use Rattle.call_alike.specs.Exits.{put, Whole, Stopped, all_early, Lent, slices, type_reading, stopped_type_reading, stopped_type_check, Judges}
+use Rattle.call_alike.specs.Exits.{read_text, put, Whole, Stopped, all_early, Lent, slices, type_reading, stopped_type_reading, stopped_type_check, Judges}
 
 -- WHOLE CALLS
 module _ (out : ℕ) (a : Calls.Answer) where
@@ -117,18 +121,32 @@ whole_calls N a c x y r {out = out} h k p q e = record {
   check_workspace = scratch q.0 q.1;
 }
 
-module _ (t : Text) (N : ℕ) (x y : Answer) (r : Bool) {w w' v v' out out' : List ℕ} where
-  pub symbol_whole_is : Answers (Reading.demangle t N (length w) (length out)) out out' x × Scratch reading_needs N (values x).number w w' →
-      (values y ≡ (Check.shape t N (length v)).values) × Scratch check_needs N (values y).number v v' → r ≡ values_agree (values x) (values y) →
-      Whole N (Reading.read t N (length w)).written (Reading.demangle t N (length w) (length out)) (Check.shape t N (length v)) w w' v v' out out' r
-  unfolding Reading.demangle
-  symbol_whole_is = whole_calls N (Reading.read t N (length w)) (Check.shape t N (length v)) x y r (symbol_read_plain t N (length w)) (symbol_shape_plain t N (length v))
+-- each of the definition's answers is plain, for a symbol and for a type
+module _ (t : Text) (N w : ℕ) where
+  read_plain : (what : Final) → Plain (read_text what t N w)
+  unfolding Reading.read Reading.read_type
+  read_plain Final.Symbol = symbol_read_plain t N w
+  read_plain Final.Type = type_read_plain t N w
 
-  pub type_whole_is : Answers (Reading.demangle_type t N (length w) (length out)) out out' x × Scratch reading_needs N (values x).number w w' →
-      (values y ≡ (Check.shape_type t N (length v)).values) × Scratch check_needs N (values y).number v v' → r ≡ values_agree (values x) (values y) →
-      Whole N (Reading.read_type t N (length w)).written (Reading.demangle_type t N (length w) (length out)) (Check.shape_type t N (length v)) w w' v v' out out' r
-  unfolding Reading.demangle_type
-  type_whole_is = whole_calls N (Reading.read_type t N (length w)) (Check.shape_type t N (length v)) x y r (type_read_plain t N (length w)) (type_shape_plain t N (length v))
+  shape_plain : (what : Final) → Plain (check_whole what t N w)
+  unfolding Check.shape Check.shape_type
+  shape_plain Final.Symbol = symbol_shape_plain t N w
+  shape_plain Final.Type = type_shape_plain t N w
+
+  read_k_plain : (what : Final) (k : ℕ) → Plain (admit reading_needs N w t (framed what t (Reading.stopped_after N k)))
+  unfolding Reading.read_stopped Reading.read_type_stopped
+  read_k_plain Final.Symbol k = symbol_read_k_plain t N w k
+  read_k_plain Final.Type k = type_read_k_plain t N w k
+
+  check_k_plain : (what : Final) (k : ℕ) → Plain (admit check_needs N w t (framed what t (Check.stopped_after N k)))
+  check_k_plain Final.Symbol k = symbol_check_k_plain t N w k
+  check_k_plain Final.Type k = type_check_k_plain t N w k
+
+pub whole_is : (t : Text) (what : Final) (N : ℕ) (x y : Answer) (r : Bool) {w w' v v' out out' : List ℕ} →
+    Answers (read_whole what t N (length w) (length out)) out out' x × Scratch reading_needs N (values x).number w w' →
+    (values y ≡ (check_whole what t N (length v)).values) × Scratch check_needs N (values y).number v v' → r ≡ values_agree (values x) (values y) →
+    Whole N (read_text what t N (length w)).written (read_whole what t N (length w) (length out)) (check_whole what t N (length v)) w w' v v' out out' r
+whole_is t what N x y r {w} {v = v} = whole_calls N (read_text what t N (length w)) (check_whole what t N (length v)) x y r (read_plain t N (length w) what) (shape_plain t N (length v) what)
 
 -- STOPPED CALLS
 -- the numbers that were written are within the slice
@@ -169,33 +187,18 @@ stopped_calls N a c x y r h k p q e = record {
 }
 
 -- what each stopped call wrote
-module _ (t : Text) (N k w : ℕ) {out out' : List ℕ} {r : Answer} where
-  pub demangle_wrote : Answers (Reading.demangle_stopped t N k w (length out)) out out' r → Wrote (Reading.demangle_stopped t N k w (length out)).written out out' r
-  unfolding Reading.demangle_stopped
-  demangle_wrote = wrote _ (symbol_read_k_plain t N w k)
+module _ (t : Text) (what : Final) (N k w : ℕ) {out out' : List ℕ} {r : Answer} where
+  pub read_wrote : Answers (read_stopped what t N k w (length out)) out out' r → Wrote (read_stopped what t N k w (length out)).written out out' r
+  read_wrote = wrote _ (read_k_plain t N w what k)
 
-  pub demangle_type_wrote : Answers (Reading.demangle_type_stopped t N k w (length out)) out out' r → Wrote (Reading.demangle_type_stopped t N k w (length out)).written out out' r
-  unfolding Reading.demangle_type_stopped
-  demangle_type_wrote = wrote _ (type_read_k_plain t N w k)
+  pub check_wrote : Answers (check_stopped what t N k w (length out)) out out' r → Wrote (check_stopped what t N k w (length out)).written out out' r
+  check_wrote = wrote _ (check_k_plain t N w what k)
 
-  pub shape_wrote : Answers (Check.shape_stopped t N k w (length out)) out out' r → Wrote (Check.shape_stopped t N k w (length out)).written out out' r
-  unfolding Check.shape_stopped
-  shape_wrote = wrote _ (symbol_check_k_plain t N w k)
-
-  pub shape_type_wrote : Answers (Check.shape_type_stopped t N k w (length out)) out out' r → Wrote (Check.shape_type_stopped t N k w (length out)).written out out' r
-  unfolding Check.shape_type_stopped
-  shape_type_wrote = wrote _ (type_check_k_plain t N w k)
-
-module _ (t : Text) (N k : ℕ) (x y : Answer) (r : Bool) {w w' v v' s s' z z' : List ℕ} where
-  pub symbol_stopped_is : Answers (Reading.demangle_stopped t N k (length w) (length s)) s s' x × Scratch reading_needs N (values x).number w w' →
-      Answers (Check.shape_stopped t N k (length v) (length z)) z z' y × Scratch check_needs N (values y).number v v' → Compared x y s' z' r →
-      Stopped N (Reading.demangle_stopped t N k (length w) (length s)) (Check.shape_stopped t N k (length v) (length z)) w w' v v' s s' z z' r
-  symbol_stopped_is p q e = stopped_calls N _ _ x y r (demangle_wrote t N k (length w) p.0) (shape_wrote t N k (length v) q.0) p q e
-
-  pub type_stopped_is : Answers (Reading.demangle_type_stopped t N k (length w) (length s)) s s' x × Scratch reading_needs N (values x).number w w' →
-      Answers (Check.shape_type_stopped t N k (length v) (length z)) z z' y × Scratch check_needs N (values y).number v v' → Compared x y s' z' r →
-      Stopped N (Reading.demangle_type_stopped t N k (length w) (length s)) (Check.shape_type_stopped t N k (length v) (length z)) w w' v v' s s' z z' r
-  type_stopped_is p q e = stopped_calls N _ _ x y r (demangle_type_wrote t N k (length w) p.0) (shape_type_wrote t N k (length v) q.0) p q e
+pub stopped_is : (t : Text) (what : Final) (N k : ℕ) (x y : Answer) (r : Bool) {w w' v v' s s' z z' : List ℕ} →
+    Answers (read_stopped what t N k (length w) (length s)) s s' x × Scratch reading_needs N (values x).number w w' →
+    Answers (check_stopped what t N k (length v) (length z)) z z' y × Scratch check_needs N (values y).number v v' → Compared x y s' z' r →
+    Stopped N (read_stopped what t N k (length w) (length s)) (check_stopped what t N k (length v) (length z)) w w' v v' s s' z z' r
+stopped_is t what N k x y r {w} {v = v} p q e = stopped_calls N _ _ x y r (read_wrote t what N k (length w) p.0) (check_wrote t what N k (length v) q.0) p q e
 
 -- ALL EIGHT
 -- Judging alike: with large enough workspaces, and stacks of equal length, the test passes
@@ -218,12 +221,13 @@ lent_then {more = more} a h k = record {
 
 module _ (t : Text) (N k : ℕ) {w w₁ w₂ w₃ w₄ v v₁ v₂ v₃ v₄ out out₁ out₂ s s₁ s₂ z z₁ z₂ : List ℕ} {r₁ r₂ r₃ r₄ : Bool} where
   -- the four pairs of calls, each on what the previous one left
-  pub judges : Whole N (Reading.read t N (length w)).written (Reading.demangle t N (length w) (length out)) (Check.shape t N (length v)) w w₁ v v₁ out out₁ r₁ →
-      Whole N (Reading.read_type t N (length w₁)).written (Reading.demangle_type t N (length w₁) (length out₁)) (Check.shape_type t N (length v₁)) w₁ w₂ v₁ v₂ out₁ out₂ r₂ →
-      Stopped N (Reading.demangle_stopped t N k (length w₂) (length s)) (Check.shape_stopped t N k (length v₂) (length z)) w₂ w₃ v₂ v₃ s s₁ z z₁ r₃ →
-      Stopped N (Reading.demangle_type_stopped t N k (length w₃) (length s₁)) (Check.shape_type_stopped t N k (length v₃) (length z₁)) w₃ w₄ v₃ v₄ s₁ s₂ z₁ z₂ r₄ →
+  pub judges : Whole N (read_text Final.Symbol t N (length w)).written (read_whole Final.Symbol t N (length w) (length out)) (check_whole Final.Symbol t N (length v)) w w₁ v v₁ out out₁ r₁ →
+      Whole N (read_text Final.Type t N (length w₁)).written (read_whole Final.Type t N (length w₁) (length out₁)) (check_whole Final.Type t N (length v₁)) w₁ w₂ v₁ v₂ out₁ out₂ r₂ →
+      Stopped N (read_stopped Final.Symbol t N k (length w₂) (length s)) (check_stopped Final.Symbol t N k (length v₂) (length z)) w₂ w₃ v₂ v₃ s s₁ z z₁ r₃ →
+      Stopped N (read_stopped Final.Type t N k (length w₃) (length s₁)) (check_stopped Final.Type t N k (length v₃) (length z₁)) w₃ w₄ v₃ v₄ s₁ s₂ z₁ z₂ r₄ →
       length out₁ ≡ length out → length s₁ ≡ length s → length z₁ ≡ length z →
       Judges t N k (slices w v out s z) (slices w₄ v₄ out₂ s₂ z₂) (r₁ && r₂ && r₃ && r₄)
+  unfolding Reading.read Reading.read_type Reading.demangle Reading.demangle_type Reading.read_stopped Reading.read_type_stopped Reading.demangle_stopped Reading.demangle_type_stopped Check.shape Check.shape_type Check.shape_stopped Check.shape_type_stopped
   judges a b₀ c₀ d₀ eo es ez =
       let ew₁ = a.reading_workspace.beyond.long in
       let ev₁ = a.check_workspace.beyond.long in

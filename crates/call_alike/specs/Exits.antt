@@ -2,17 +2,25 @@
 use Rattle.std.specs.Prelude.{◌≡◌, Bool, true, ◌&&◌, List, [], ◌∷◌, ◌++◌, ℕ, T, length, drop}
 use Rattle.definition.specs.Text.{Text}
 use Rattle.definition.specs.Calls as Calls
-use Rattle.definition.specs.Calls.{reading_needs, check_needs}
+use Rattle.definition.specs.Calls.{admit, reading_needs, check_needs}
+use Rattle.definition.specs.Reading as Reading
 use Rattle.definition.specs.Reading.{demangle, demangle_type, demangle_stopped, demangle_type_stopped}
 use Rattle.definition.specs.Check.{shape, shape_type, shape_stopped, shape_type_stopped}
 use Rattle.definition.specs.Alike.{enough}
 use Rattle.machine.specs.Beyond.{Beyond}
+use Rattle.machine.specs.RunEnds.{kinds_of}
+use Rattle.machine.specs.declared.runs.Final.{Final}
+use Rattle.call_admission.specs.Admits.{framed}
 use Rattle.call_endings.specs.Workspace.{early, Scratch}
 use Rattle.call_values.specs.Agreement.{whole_agree, same_answer, judged}
 
 -- what the call writes to the front of the slice, followed by the unchanged rest of the slice
 abbrev pub put : Calls.Answer → List ℕ → List ℕ
 put a out = a.written ++ drop (length a.written) out
+
+-- what the definition reads, before the output slice is looked at
+abbrev pub read_text : Final → Text → (N workspace : ℕ) → Calls.Answer
+read_text what t N workspace = admit reading_needs N workspace t (framed what t (Reading.whole N (kinds_of what)))
 
 -- TWO CALLS, to which the definition answers `reading` and `check`. At entry w is the workspace of
 -- the reading, v that of the check, o the output slice, s and z the stacks; at exit w', v', o', s'

@@ -3,44 +3,37 @@
 #![tactic(auto)]
 
 ghost use Rattle.std.specs.Prelude.{length};
-ghost use Rattle.definition.specs.Check as Check;
-ghost use Rattle.definition.specs.Reading as Reading;
-ghost use Rattle.call_alike.specs.Exits.{Whole, Stopped, Judges, slices};
+ghost use Rattle.swift_demangle.specs.Calls.{read_whole, read_stopped};
+ghost use Rattle.swift_shape.specs.Calls.{check_whole, check_stopped};
+ghost use Rattle.call_alike.specs.Exits.{read_text, Whole, Stopped, Judges, slices};
 
 use call_values::agreement::{stopped_agrees, whole_agrees};
+use machine::runs::Final;
+use swift_demangle::{read, read_stopped};
+use swift_shape::{check, check_stopped};
 
-// Each pair of calls: whether they agree, and what they leave in the slices.
-
-fn symbol_whole(
+// The whole calls for a symbol or for a type: whether they agree, and what they leave in the
+// slices.
+fn whole(
     text: &[u8],
+    what: Final,
     ceiling: usize,
     reading_workspace: &mut [u32],
     check_workspace: &mut [u32],
     out: &mut [u8],
 ) -> bool
-    ensures { Whole ceiling (Reading.read text.now ceiling (length reading_workspace.old)).written (Reading.demangle text.now ceiling (length reading_workspace.old) (length out.old)) (Check.shape text.now ceiling (length check_workspace.old)) reading_workspace.old reading_workspace.new check_workspace.old check_workspace.new out.old out.new result }
+    ensures { Whole ceiling (read_text what text.now ceiling (length reading_workspace.old)).written (read_whole what text.now ceiling (length reading_workspace.old) (length out.old)) (check_whole what text.now ceiling (length check_workspace.old)) reading_workspace.old reading_workspace.new check_workspace.old check_workspace.new out.old out.new result }
 {
-    let reading = swift_demangle::demangle(text, ceiling, reading_workspace, out);
-    let check = swift_shape::shape(text, ceiling, check_workspace);
-    whole_agrees(reading, check)
+    whole_agrees(
+        read(text, what, ceiling, reading_workspace, out),
+        check(text, what, ceiling, check_workspace),
+    )
 }
 
-fn type_whole(
+// The same for the stopped calls.
+fn stopped(
     text: &[u8],
-    ceiling: usize,
-    reading_workspace: &mut [u32],
-    check_workspace: &mut [u32],
-    out: &mut [u8],
-) -> bool
-    ensures { Whole ceiling (Reading.read_type text.now ceiling (length reading_workspace.old)).written (Reading.demangle_type text.now ceiling (length reading_workspace.old) (length out.old)) (Check.shape_type text.now ceiling (length check_workspace.old)) reading_workspace.old reading_workspace.new check_workspace.old check_workspace.new out.old out.new result }
-{
-    let reading = swift_demangle::demangle_type(text, ceiling, reading_workspace, out);
-    let check = swift_shape::shape_type(text, ceiling, check_workspace);
-    whole_agrees(reading, check)
-}
-
-fn symbol_stopped(
-    text: &[u8],
+    what: Final,
     ceiling: usize,
     k: usize,
     reading_workspace: &mut [u32],
@@ -48,38 +41,10 @@ fn symbol_stopped(
     reading_stack: &mut [u32],
     check_stack: &mut [u32],
 ) -> bool
-    ensures { Stopped ceiling (Reading.demangle_stopped text.now ceiling k (length reading_workspace.old) (length reading_stack.old)) (Check.shape_stopped text.now ceiling k (length check_workspace.old) (length check_stack.old)) reading_workspace.old reading_workspace.new check_workspace.old check_workspace.new reading_stack.old reading_stack.new check_stack.old check_stack.new result }
+    ensures { Stopped ceiling (read_stopped what text.now ceiling k (length reading_workspace.old) (length reading_stack.old)) (check_stopped what text.now ceiling k (length check_workspace.old) (length check_stack.old)) reading_workspace.old reading_workspace.new check_workspace.old check_workspace.new reading_stack.old reading_stack.new check_stack.old check_stack.new result }
 {
-    let reading = swift_demangle::demangle_stopped(
-        text,
-        ceiling,
-        k,
-        reading_workspace,
-        reading_stack,
-    );
-    let check = swift_shape::shape_stopped(text, ceiling, k, check_workspace, check_stack);
-    stopped_agrees(reading, check, reading_stack, check_stack)
-}
-
-fn type_stopped(
-    text: &[u8],
-    ceiling: usize,
-    k: usize,
-    reading_workspace: &mut [u32],
-    check_workspace: &mut [u32],
-    reading_stack: &mut [u32],
-    check_stack: &mut [u32],
-) -> bool
-    ensures { Stopped ceiling (Reading.demangle_type_stopped text.now ceiling k (length reading_workspace.old) (length reading_stack.old)) (Check.shape_type_stopped text.now ceiling k (length check_workspace.old) (length check_stack.old)) reading_workspace.old reading_workspace.new check_workspace.old check_workspace.new reading_stack.old reading_stack.new check_stack.old check_stack.new result }
-{
-    let reading = swift_demangle::demangle_type_stopped(
-        text,
-        ceiling,
-        k,
-        reading_workspace,
-        reading_stack,
-    );
-    let check = swift_shape::shape_type_stopped(text, ceiling, k, check_workspace, check_stack);
+    let reading = read_stopped(text, what, ceiling, k, reading_workspace, reading_stack);
+    let check = check_stopped(text, what, ceiling, k, check_workspace, check_stack);
     stopped_agrees(reading, check, reading_stack, check_stack)
 }
 
@@ -98,10 +63,25 @@ pub fn judged_alike(
 ) -> bool
     ensures { Judges text.now ceiling k (slices reading_workspace.old check_workspace.old out.old reading_stack.old check_stack.old) (slices reading_workspace.new check_workspace.new out.new reading_stack.new check_stack.new) result }
 {
-    let symbols_agree = symbol_whole(text, ceiling, reading_workspace, check_workspace, out);
-    let types_agree = type_whole(text, ceiling, reading_workspace, check_workspace, out);
-    let stopped_symbols_agree = symbol_stopped(
+    let symbols_agree = whole(
         text,
+        Final::Symbol,
+        ceiling,
+        reading_workspace,
+        check_workspace,
+        out,
+    );
+    let types_agree = whole(
+        text,
+        Final::Type,
+        ceiling,
+        reading_workspace,
+        check_workspace,
+        out,
+    );
+    let stopped_symbols_agree = stopped(
+        text,
+        Final::Symbol,
         ceiling,
         k,
         reading_workspace,
@@ -109,8 +89,9 @@ pub fn judged_alike(
         reading_stack,
         check_stack,
     );
-    let stopped_types_agree = type_stopped(
+    let stopped_types_agree = stopped(
         text,
+        Final::Type,
         ceiling,
         k,
         reading_workspace,

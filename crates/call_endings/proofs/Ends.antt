@@ -6,22 +6,17 @@ use mathlib.Core.List.{List, ◌++◌}
 use Prim.Native.Nat.{ℕ, ◌+◌, ◌-◌, ◌≤◌, ◌<◌}
 use native.Mathlib.Omega.{arith}
 use lib.Dec.{leb, leb-zero, leb→le, le→leb, not_T}
-use lib.ListN.{length, take, drop, length-take, length-drop}
-use lib.Seq.{take_all}
-use Rattle.definition.specs.Text.{Text}
+use lib.ListN.{length, drop}
+use Rattle.definition.specs.Text.{Symbol}
 use Rattle.definition.specs.Budget as B
 use Rattle.definition.specs.Calls as Calls
 use Rattle.definition.specs.Calls.{refusal, accepted, within, End, ran, stopped, ended}
 use Rattle.definition.specs.Enums.{number, values}
-use Rattle.definition.specs.declared.Answer.{Answer}
-use Rattle.definition.specs.declared.Counts.{Counts}
+use Rattle.definition.specs.Enums.{Answer}
 use Rattle.definition.specs.declared.Refusal.{Refusal}
 use Rattle.definition.proofs.SameText.{passed, failed}
-use Rattle.machine.specs.Spent.{budget_of}
-use Rattle.machine.specs.declared.budget.Budget.{Budget}
 use Rattle.machine.specs.RunEnds.{Writing}
-use Rattle.std.specs.Prelude.{Option, Some, None}
-use Rattle.text_symbols.specs.Symbol as Symbols
+use Rattle.std.specs.Prelude.{Option, Some, None, Err}
 use Rattle.call_endings.specs.Answers.{Answers, Stacked}
 
 -- THE LAST CHECK
@@ -42,7 +37,7 @@ pub answers_is : {a b : Calls.Answer} {out out' : List ℕ} {r : Answer} → a �
 answers_is {out = out} {out' = out'} {r = r} e h = subst (λ (x : Calls.Answer). Answers x out out' r) (sym e) h
 
 -- a refusal leaves the output slice unchanged
-pub refused_answers : (out : List ℕ) (r : Refusal) (p : ℕ) → Answers (within (length out) (refusal (number r) p)) out out (Answer.Refused r p)
+pub refused_answers : (out : List ℕ) (r : Refusal) (p : ℕ) → Answers (within (length out) (refusal (number r) p)) out out (Err (record { refusal = r; place = p }))
 unfolding refusal values
 refused_answers out r p = answers_is (within_refusal (length out) (number r) p) (record { values = refl; written = refl })
 
@@ -65,39 +60,16 @@ module _ (b : B.Budget) (s out out' : List ℕ) (r : Answer) where
   stacked_answers None h v = past_answers h.past h.same v
 
 -- THE BODY
-pub suffix_is : (text : Text) (end : ℕ) → drop end text ≡ take (length text - end) (drop end text)
-suffix_is text end = sym (take_all (length text - end) (drop end text) (omega (arith, length-drop end text)))
-
-module _ (text : Text) (start end : ℕ) where
-  -- its end
-  pub body_end : start ≤ end → end ≤ length text → start + length (Symbols.symbol text start end).body ≡ end
-  body_end h k = omega (arith, length-take (end - start) (drop start text), length-drop start text, h, k)
-
-  pub body_short : length text ≤ 65535 → length (take (end - start) (drop start text)) ≤ 65535
-  body_short h = omega (arith, length-take (end - start) (drop start text), length-drop start text, h)
-
+module _ (s : Symbol) where
   -- the place of a refusal
-  place : (at : ℕ) → at ≤ length (Symbols.symbol text start end).body → start + (length (Symbols.symbol text start end).body - (length (Symbols.symbol text start end).body - at)) ≡ start + at
+  place : (at : ℕ) → at ≤ length s.body → s.start + (length s.body - (length s.body - at)) ≡ s.start + at
   place at h = omega (arith, h)
 
   module _ {S : Type 0} (read : S → Calls.Answer) where
-    pub ended_ran : (e : End S) (m : S) → e ≡ ran m → ended (Symbols.symbol text start end) e read ≡ read m
+    pub ended_ran : (e : End S) (m : S) → e ≡ ran m → ended s e read ≡ read m
     unfolding ended
-    ended_ran e m h = ap (λ (x : End S). ended (Symbols.symbol text start end) x read) h
+    ended_ran e m h = ap (λ (x : End S). ended s x read) h
 
-    pub ended_stopped : (e : End S) (r : Refusal) (at : ℕ) → at ≤ length (Symbols.symbol text start end).body → e ≡ stopped (number r) (length (Symbols.symbol text start end).body - at) → ended (Symbols.symbol text start end) e read ≡ refusal (number r) (start + at)
+    pub ended_stopped : (e : End S) (r : Refusal) (at : ℕ) → at ≤ length s.body → e ≡ stopped (number r) (length s.body - at) → ended s e read ≡ refusal (number r) (s.start + at)
     unfolding ended
-    ended_stopped e r at l h = ap (λ (x : End S). ended (Symbols.symbol text start end) x read) h ∙ ap (λ (p : ℕ). refusal (number r) p) (place at l)
-
--- COUNTS
-pub counted : (b : Budget) {n : ℕ} {c : Counts} → c ≡ record { steps = b.steps; total = b.total; wraps = b.wraps } →
-    values (Answer.Accepted c n) ≡ record { number = 0; place = 0; steps = b.steps; total = b.total; wraps = b.wraps; length = n }
-unfolding values
-counted b {n} e = ap (λ (x : Counts). values (Answer.Accepted x n)) e
-
-pub stacked_numbers : (b : Budget) {n : ℕ} {v : Option ℕ} (c : Counts) → v ≡ Some n → c ≡ record { steps = b.steps; total = b.total; wraps = b.wraps } → Stacked (budget_of b) v (Answer.Accepted c n)
-stacked_numbers b {n} c q e = subst (λ (x : Option ℕ). Stacked (budget_of b) x (Answer.Accepted c n)) (sym q) (counted b e)
-
-pub stacked_past : (b : Budget) (v : Option ℕ) → v ≡ None → Stacked (budget_of b) v (Answer.Refused Refusal.Output 0)
-unfolding values refusal number
-stacked_past b v q = subst (λ (x : Option ℕ). Stacked (budget_of b) x (Answer.Refused Refusal.Output 0)) (sym q) refl
+    ended_stopped e r at l h = ap (λ (x : End S). ended s x read) h ∙ ap (λ (p : ℕ). refusal (number r) p) (place at l)

@@ -1,5 +1,4 @@
 pub mod Ends
 pub mod Entering
 pub mod Runs
-pub mod Telling
 pub mod Users

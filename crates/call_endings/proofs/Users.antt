@@ -18,7 +18,7 @@ use Rattle.definition.specs.Calls.{refusal, within, good_ceiling, admit, symbol,
 use Rattle.definition.specs.Reading as Reading
 use Rattle.definition.specs.Check as Check
 use Rattle.definition.specs.Enums.{values}
-use Rattle.definition.specs.declared.Answer.{Answer}
+use Rattle.definition.specs.Enums.{Answer}
 use Rattle.call_endings.specs.Answers.{Answers}
 use Rattle.call_endings.proofs.Runs.{Plain, refusal_plain, read_ran, read_k_ran, check_ran, check_k_ran}
 

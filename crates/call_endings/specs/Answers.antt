@@ -4,8 +4,8 @@ use Rattle.definition.specs.Budget as B
 use Rattle.definition.specs.Calls as Calls
 use Rattle.definition.specs.Calls.{refusal}
 use Rattle.definition.specs.Enums.{values}
-use Rattle.definition.specs.declared.Answer.{Answer}
-use Rattle.std.specs.Prelude.{ℕ, Option, Some, None}
+use Rattle.definition.specs.Enums.{Answer}
+use Rattle.std.specs.Prelude.{Option, Some, None}
 
 -- Number, place, counts and length are the definition's. What the definition writes is at the front
 -- of the output slice, and the rest of the slice is unchanged. A refusal writes nothing

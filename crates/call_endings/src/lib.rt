@@ -1,23 +1,12 @@
 // The result at the end of any run: its counts, or refusal 12 if a text or a stack exceeds the
 // output slice.
-#![tactic(auto)]
+#![tactic(auto, unfolding(definition::specs::Enums::number, definition::specs::Enums::values, definition::specs::Calls::refusal))]
 
-ghost use Rattle.std.specs.Prelude.{◌≡◌};
 ghost use Rattle.machine.specs.Spent.{budget_of};
 ghost use Rattle.call_endings.specs.Answers.{Measured, Stacked};
 
-use definition::{Answer, Counts, Refusal};
+use definition::{Accepted, Answer, Counts, Refusal, Refused};
 use machine::budget::Budget;
-
-pub fn counts(budget: Budget) -> Counts
-    ensures { result ≡ record { steps = budget.steps; total = budget.total; wraps = budget.wraps } }
-{
-    Counts {
-        steps: budget.steps,
-        total: budget.total,
-        wraps: budget.wraps,
-    }
-}
 
 // The answer for a text of n bytes, where there is room for `room` bytes. Refusal 12: the text
 // exceeds them.
@@ -25,17 +14,21 @@ pub fn measured(budget: Budget, n: usize, room: usize) -> Answer
     ensures { Measured (budget_of budget) n room result }
 {
     if room < n {
-        return Answer::Refused(Refusal::Output, 0);
+        return Err(Refused::at_start(Refusal::Output));
     }
-    Answer::Accepted(counts(budget), n)
+    Ok(Accepted {
+        counts: Counts::from(budget),
+        length: n,
+    })
 }
 
 // The answer for what a stopped run wrote. Refusal 12: the stack exceeds the slice.
 pub fn stacked(budget: Budget, written: Option<usize>) -> Answer
     ensures { Stacked (budget_of budget) written result }
 {
-    match written {
-        Some(n) => Answer::Accepted(counts(budget), n),
-        None => Answer::Refused(Refusal::Output, 0),
-    }
+    let length = written.ok_or(Refused::at_start(Refusal::Output))?;
+    Ok(Accepted {
+        counts: Counts::from(budget),
+        length,
+    })
 }

@@ -1,5 +1,5 @@
 -- Demand 3 as a test: whether the answers of reading and check agree. Assumes nothing.
-use Rattle.std.specs.Prelude.{Bool, true, false, ◌&&◌, List, ℕ, eqb, leb, length, if◌then◌else◌}
+use Rattle.std.specs.Prelude.{Bool, ◌&&◌, List, ℕ, eqb, leb, length, if◌then◌else◌}
 use Rattle.definition.specs.Base.{same}
 use Rattle.definition.specs.Text.{Text}
 use Rattle.definition.specs.Calls as Calls

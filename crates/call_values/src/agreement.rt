@@ -1,77 +1,34 @@
 // Whether two answers agree: their values, and the numbers that stopped calls wrote.
+#![tactic(auto, unfolding(definition::specs::Enums::number, definition::specs::Enums::values, definition::specs::Calls::refusal))]
+
 ghost use Rattle.std.specs.Prelude.{◌≡◌, ◌&&◌, ◌≤◌, length, take};
 ghost use Rattle.definition.specs.Base.{same};
 ghost use Rattle.definition.specs.Enums as Enums;
-ghost use Rattle.call_values.specs.Six.{meant};
 ghost use Rattle.call_values.specs.Agreement.{same_values, values_due, values_agree};
 
-use crate::{Values, number, values_of};
-use definition::{Answer, Refusal};
+use definition::{Accepted, Answer, Refusal, Refused};
 
-// Whether all six values are equal.
-fn same_values(a: Values, b: Values) -> bool
-    ensures { result ≡ same_values (meant a) (meant b) }
-{
-    (a.number == b.number)
-        & (a.place == b.place)
-        & (a.steps == b.steps)
-        & (a.total == b.total)
-        & (a.wraps == b.wraps)
-        & (a.length == b.length)
-}
-
-// Returns the values that a whole reading must give if the check gives these. Where both accept,
+// Returns the answer that a whole reading must give if the check gives this one. Where both accept,
 // the length is the reading's own. A reading that refuses what the check accepts must refuse with
 // 12, at 0.
-fn values_due(reading: Values, check: Values) -> Values
-    ensures { meant result ≡ values_due (meant reading) (meant check) }
+fn due(reading: Answer, check: Answer) -> Answer
+    ensures { Enums.values result ≡ values_due (Enums.values reading) (Enums.values check) }
 {
-    if check.number != 0 {
-        return check;
+    match (reading, check) {
+        (_, Err(_)) => check,
+        (Err(_), Ok(_)) => Err(Refused::at_start(Refusal::Output)),
+        (Ok(read), Ok(checked)) => Ok(Accepted {
+            length: read.length,
+            ..checked
+        }),
     }
-    if reading.number != 0 {
-        return Values {
-            number: number(Refusal::Output),
-            place: 0,
-            steps: 0,
-            total: 0,
-            wraps: 0,
-            length: 0,
-        };
-    }
-    Values {
-        number: check.number,
-        place: check.place,
-        steps: check.steps,
-        total: check.total,
-        wraps: check.wraps,
-        length: reading.length,
-    }
-}
-
-// Whether the first n numbers of both are equal.
-fn same_numbers(a: &[u32], b: &[u32], n: usize) -> bool
-    requires { (n ≤ length a.now) × (n ≤ length b.now) }
-    ensures { result ≡ same (take n a.now) (take n b.now) }
-{
-    let mut i = 0;
-    while i < n {
-        if a[i] != b[i] {
-            return false;
-        }
-        i += 1;
-    }
-    true
 }
 
 // Compares whole calls by their values only. The text that was written is not compared here.
 pub fn whole_agrees(reading: Answer, check: Answer) -> bool
     ensures { result ≡ values_agree (Enums.values reading) (Enums.values check) }
 {
-    let a = values_of(reading);
-    let b = values_of(check);
-    let due = values_due(a, b);
-    same_values(a, due)
+    reading == due(reading, check)
 }
 
 // Compares stopped calls: all values, and the numbers that they wrote.
@@ -84,11 +41,11 @@ pub fn stopped_agrees(
     requires { ((Enums.values reading).length ≤ length reading_stack.now) × ((Enums.values check).length ≤ length check_stack.now) }
     ensures { result ≡ (same_values (Enums.values reading) (Enums.values check) && same (take (Enums.values reading).length reading_stack.now) (take (Enums.values reading).length check_stack.now)) }
 {
-    let a = values_of(reading);
-    let b = values_of(check);
-    if !same_values(a, b) {
+    if reading != check {
         return false;
     }
-    let n = a.length;
-    same_numbers(reading_stack, check_stack, n)
+    match reading {
+        Ok(read) => reading_stack[..read.length] == check_stack[..read.length],
+        Err(_) => true,
+    }
 }

@@ -18,7 +18,7 @@ use definition::Refusal;
 use machine::budget::Budget;
 use machine::kinds::{Kind, Want, is_context, wanted};
 
-#[derive(Clone, Copy, Debug, PartialEq, Eq)]
+#[derive(Clone, Copy)]
 pub struct Entry {
     // Kept: the number of a kind, since the workspace may hold any number, and a stopped run writes
     // it as it is.
@@ -41,7 +41,7 @@ impl Entry {
 }
 
 // The counts, the numbers of entries on the stack and remembered, and the number of known words.
-#[derive(Clone, Copy, Debug, PartialEq, Eq)]
+#[derive(Clone, Copy)]
 pub struct State {
     pub budget: Budget,
     pub depth: usize,
@@ -68,7 +68,8 @@ impl State {
 //
 // Kept: what holds of the entries (`Held`, and `Light`, `Roomy` and `Sound` of `check_perform`) is a
 // clause of the functions and no ghost field, since it changes within an operator: a node is
-// charged before it is pushed, and entries are taken one by one.
+// charged before it is pushed, and entries are taken one by one. `8 * ceiling ≤ length ws` stays a
+// clause, too: as a ghost field, `new` would ask it of its callers.
 #[derive(Drop)]
 pub struct Entries<'a> {
     pub ws: &'a mut [u32],
@@ -77,7 +78,7 @@ pub struct Entries<'a> {
 }
 
 // The takes of a row, as in the definition.
-#[derive(Clone, Copy, Debug, PartialEq, Eq)]
+#[derive(Clone, Copy)]
 pub enum Take {
     Wraps,
     Node(Want),

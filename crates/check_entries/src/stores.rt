@@ -49,7 +49,7 @@ impl Entries<'_> {
 
     // Pushes that many copies of an entry, each charged its size.
     pub fn push_charged(&mut self, times: usize, e: Entry) -> Result<(), Refusal>
-        requires { (8 * self.old.ceiling ≤ length self.old.ws.now) × (self.old.ceiling ≤ 65536) × (self.old.state.depth ≤ self.old.state.budget.total) × (1 ≤ e.size) }
+        requires { (8 * self.old.ceiling ≤ length self.old.ws.now) × (self.old.state.depth ≤ self.old.state.budget.total) × (1 ≤ e.size) }
         ensures { Performing (C.copied self.old.ceiling times (entry_of e)) self.old self.new result }
     {
         self.state.budget = self

@@ -12,6 +12,9 @@ use machine::kinds::{Kind, Want};
 // What an operator takes, and what it leaves: a node of a kind, with its own number of nodes,
 // whether it has the count of what was taken, whether it is remembered, and how many copies of it
 // are charged and pushed. `None`: it is pushed once and not charged.
+//
+// Kept: two flags, each a question of its own, as in the definition's `Leaves`. `counted` and
+// `remembered` below set one each, since rows with `true, false` as arguments would say less.
 #[derive(Clone, Copy)]
 pub struct Row {
     pub takes: &'static [Take],
@@ -62,18 +65,6 @@ const TYPE: Take = Take::Node(Want::Type);
 
 const ENTITY: Take = Take::Node(Want::Entity);
 
-fn nominal_kind(k: NominalKind) -> Kind
-    ensures { kind_of result ≡ nominal k }
-{
-    match k {
-        NominalKind::Class => Kind::Class,
-        NominalKind::Struct => Kind::Struct,
-        NominalKind::Enum => Kind::Enum,
-        NominalKind::Protocol => Kind::Protocol,
-        NominalKind::TypeAlias => Kind::TypeAlias,
-    }
-}
-
 // Returns what a requirement takes: its subject, and what its subject is required to be.
 fn requirement_takes(s: Subject, c: Constraint) -> &'static [Take]
     ensures { Requires s c result.now }
@@ -122,7 +113,7 @@ fn leaf_row(l: Leaf, copies: Option<usize>) -> Row
 {
     let (kind, own) = match l {
         Leaf::Module(_) => (Kind::Module, 1),
-        Leaf::StandardNominal(k, _) => (nominal_kind(k), 2),
+        Leaf::StandardNominal(k, _) => (Kind::from(k), 2),
         Leaf::GenericParam(_) => (Kind::GenericParam, 1),
         Leaf::EmptyList => (Kind::EmptyList, 1),
         Leaf::FirstElementMarker => (Kind::FirstElementMarker, 1),
@@ -198,7 +189,7 @@ pub fn row_of(op: Operator) -> Row
     ensures { RowOf op result }
 {
     match op {
-        Operator::Nominal(k) => Row::remembered(&[Take::Name, Take::Context], nominal_kind(k), 1),
+        Operator::Nominal(k) => Row::remembered(&[Take::Name, Take::Context], Kind::from(k), 1),
         Operator::Leaf(l) => leaf_row(l, None),
         Operator::Standard(n, l) => leaf_row(l, Some(n)),
         Operator::Optional(n) => Row {

@@ -1,5 +1,4 @@
-pub mod Chains
 pub mod Beginnings
-pub mod OneOperator
-pub mod PlainName
-pub mod RunLoop
+pub mod Steps
+pub mod Names
+pub mod Whole

@@ -53,6 +53,7 @@ pub fn gather<L: List>(entries: &mut Entries, taken: Taken) -> Result<Taken, Ref
     ensures { Gathering (all_of L.from (taken_of taken)) entries.old taken entries.new result }
 {
     let mut sum = taken;
+    // Kept: how far a list goes is known only from what is taken of it.
     loop {
         match L::round(entries, sum)? {
             ControlFlow::Break(all) => {

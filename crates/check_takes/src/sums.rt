@@ -1,5 +1,6 @@
 // What an operator of the shape check has taken so far.
-ghost use Rattle.std.specs.Prelude.{◌≡◌, true, ◌+◌, ◌^◌, ◌≤◌, ◌<◌};
+ghost use Rattle.std.specs.Prelude.{◌≡◌, true, if◌then◌else◌, eqb, ◌+◌, ◌^◌, ◌≤◌, ◌<◌};
+ghost use Rattle.machine.specs.Kinds.{kind_of};
 ghost use Rattle.definition.specs.Shape as C;
 ghost use Rattle.check_entries.specs.Lies.{entry_of};
 ghost use Rattle.check_takes.specs.Taken.{taken_of, Sets};
@@ -8,7 +9,10 @@ use check_entries::Entry;
 use machine::kinds::Kind;
 
 // The sum of the sizes, what was counted, and whether there was a signature.
-#[derive(Clone, Copy, Debug, PartialEq, Eq)]
+//
+// Kept: `signed` says nothing about the other two, so there is no case for it; and that the size is
+// at most 2^20 is a clause and no ghost field, since the sum with one more entry may be larger.
+#[derive(Clone, Copy)]
 pub struct Taken {
     pub size: usize,
     pub count: usize,
@@ -45,16 +49,16 @@ impl Taken {
         }
     }
 
-    // Adds the parameters of a function type. The elements of a tuple are counted, anything else
-    // counts as one.
-    pub fn add_params(self, e: Entry) -> Self
-        requires { self.size ≤ 2 ^ 20 }
-        ensures { Sets (C.add_params (entry_of e) (taken_of self)) result }
+    // Adds an entry. Its own count is the count if it is of that kind, and otherwise the count is
+    // the given one.
+    fn add_counted_as(self, e: Entry, kind: Kind, otherwise: usize) -> Self
+        requires { (self.size ≤ 2 ^ 20) × (otherwise < 2 ^ 32) }
+        ensures { Sets (C.taken (e.size + self.size) (if eqb e.kind (kind_of kind) then e.count else otherwise) self.signed) result }
     {
-        let count = if e.kind == Kind::Tuple as u32 {
+        let count = if e.kind == kind.code() {
             e.count as usize
         } else {
-            1
+            otherwise
         };
         Taken {
             count,
@@ -62,20 +66,24 @@ impl Taken {
         }
     }
 
+    // Adds the parameters of a function type. The elements of a tuple are counted, anything else
+    // counts as one.
+    // Kept: this and `add_labelled` are two takes of the definition, each one call.
+    #[tactic(auto, unfolding(definition::specs::Shape::add_params))]
+    pub fn add_params(self, e: Entry) -> Self
+        requires { self.size ≤ 2 ^ 20 }
+        ensures { Sets (C.add_params (entry_of e) (taken_of self)) result }
+    {
+        self.add_counted_as(e, Kind::Tuple, 1)
+    }
+
     // Adds a type. The parameters of a function type are counted.
+    #[tactic(auto, unfolding(definition::specs::Shape::add_labelled))]
     pub fn add_labelled(self, e: Entry) -> Self
         requires { self.size ≤ 2 ^ 20 }
         ensures { Sets (C.add_labelled (entry_of e) (taken_of self)) result }
     {
-        let count = if e.kind == Kind::FunctionType as u32 {
-            e.count as usize
-        } else {
-            0
-        };
-        Taken {
-            count,
-            ..self.add(e)
-        }
+        self.add_counted_as(e, Kind::FunctionType, 0)
     }
 
     // Adds a signature, under which the type has one more node.

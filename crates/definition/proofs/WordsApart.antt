@@ -8,20 +8,16 @@ use mathlib.Core.Option.{Option, some, none}
 use Prim.Native.Nat.{ℕ, zero, suc}
 use lib.Dec.{eqb}
 use lib.ListN.{get_elem?}
-use Rattle.definition.specs.Base.{given, is_some, digit, Out, ok, refused, Step, Done, ret, refuse, and_then, ◌>>=◌, Late, good, bad, judge}
-use Rattle.definition.specs.Text.{Text}
+use Rattle.definition.specs.Base.{given, is_some, Out, ok, refused, Step, Done, ret, refuse, and_then, ◌>>=◌, Late, good, bad, judge}
 use Rattle.definition.specs.Kind as K
 use Rattle.definition.specs.Kind.{Entry}
 use Rattle.definition.specs.Operators as Op
-use Rattle.definition.specs.Operators.{operator}
 use Rattle.definition.specs.Budget as B
 use Rattle.definition.specs.Budget.{Budget}
 use Rattle.definition.specs.Machine as M
 use Rattle.definition.specs.Machine.{machine, restack, spent, spend, wrap, remember, recall, push, push_copies, rounds}
 use Rattle.definition.specs.Shape as C
 use Rattle.definition.specs.Shape.{Shapes, Check, Take, Taken, Leaves, Row, kind_of, pop_if, try, took, taking}
-use Rattle.definition.specs.Calls.{then_run, turn}
-use Rattle.definition.specs.Check.{one}
 
 -- WHAT IS STATED
 -- the machine with other words
@@ -32,6 +28,10 @@ rewords w m = machine m.budget m.stack m.substitutions w
 abbrev pub reworded : {A : Type 0} → ℕ → Out Shapes A → Out Shapes A
 reworded w (ok a m) = ok a (rewords w m)
 reworded w (refused r) = refused r
+
+-- a step has the same result whatever the words are
+abbrev pub Apart : Check Done → Type 0
+Apart f = (w : ℕ) (m : Shapes) → f (rewords w m) ≡ reworded w (f m)
 
 -- A step has the same result whatever the words are. Such steps are closed under `bind`, so each
 -- function of specs/Shape.antt takes one line
@@ -218,12 +218,7 @@ independent_taking (C.requirements ∷ ts) a leave l = bind independent_rounds �
 independent_taking (C.refuses r ∷ ts) a leave l = independent_refuse r
 independent_taking (C.printed_ahead ∷ ts) a leave l = independent_taking ts _ leave l
 
--- ROWS AND TURNS
-independent_then_run : {A : Type 0} (o : Out Text A) (f : A → Check Done) → ((a : A) → Independent (f a)) → Independent (then_run o f)
-unfolding then_run
-independent_then_run (ok a u) f h = bind (h a) λ _. independent_ret u
-independent_then_run (refused r) f h = independent_refuse r
-
+-- ROWS
 module _ (N : ℕ) where
   independent_copied : (times : ℕ) (e : Entry) → Independent (C.copied N times e)
   unfolding C.copied
@@ -243,23 +238,17 @@ module _ (N : ℕ) where
   independent_run_row (C.recalls cs l) = independent_recalled cs l
   independent_run_row (C.rule ts l) = independent_taking ts _ (C.leave N l) (independent_leave l)
 
-  module _ (c : ℕ) (t : Text) (e : digit c ≡ false) where
-    independent_one : Independent (one N (c ∷ t))
-    unfolding one
-    independent_one = rw (e, one) (independent_then_run (operator c t) (λ op. C.run_row N (C.row op)) λ op. independent_run_row (C.row op))
+  -- a row has the same result with other words, and those are the words after it
+  pub row_apart : (r : Row) → Apart (C.run_row N r)
+  row_apart r w m = (independent_run_row r).at w m
 
-    independent_turn : Independent (turn N (one N) (c ∷ t))
-    unfolding turn
-    independent_turn = bind (independent_spend B.step) λ _. bind (independent_spend (B.charge N 1)) λ _. independent_one
+  -- and so have copies of what is remembered
+  pub recall_apart : (times i : ℕ) → Apart (recall i >>= λ e. C.copied N times e)
+  recall_apart times i w m = (bind (independent_recall i) λ e. independent_copied times e).at w m
 
-    -- a turn where the byte is not a digit has the same result with other words, and those are the
-    -- words after it
-    pub turn_apart : (w : ℕ) (m : Shapes) → turn N (one N) (c ∷ t) (rewords w m) ≡ reworded w (turn N (one N) (c ∷ t) m)
-    turn_apart w m = independent_turn.at w m
-
-    -- so it leaves the words unchanged, if it is not refused
-    pub turn_keeps_words : (m n : Shapes) (u : Text) → turn N (one N) (c ∷ t) m ≡ ok u n → n.words ≡ m.words
-    turn_keeps_words m n u q = go (sym q ∙ (turn_apart m.words m ∙ ap (reworded m.words) q))
-      where
-        go : ◌≡◌ {A = Out Shapes Text} (ok u n) (ok u (rewords m.words n)) → n.words ≡ m.words
-        go d = let z : n ≡ rewords m.words n = cc in ap (λ (x : Shapes). x.words) z
+-- such a step leaves the words unchanged, if it is not refused
+pub keeps_words : (f : Check Done) → Apart f → (m n : Shapes) → f m ≡ ok tt n → n.words ≡ m.words
+keeps_words f h m n q = go (sym q ∙ (h m.words m ∙ ap (reworded m.words) q))
+  where
+    go : ◌≡◌ {A = Out Shapes Done} (ok tt n) (ok tt (rewords m.words n)) → n.words ≡ m.words
+    go d = let z : n ≡ rewords m.words n = cc in ap (λ (x : Shapes). x.words) z

@@ -2,7 +2,7 @@
 -- document 01's number and values of an answer. What follows them (from `nominal_kind` on) is FOR
 -- CODE ONLY: which operator of specs/Operators a case of the code's enums means, so that the
 -- contracts of the crates can name it.
-use Rattle.std.specs.Prelude.{true, false, ℕ}
+use Rattle.std.specs.Prelude.{true, false, ℕ, Result, Ok, Err}
 use Rattle.std.proofs.Math.Option.{some, none}
 use Prim.Native.String.{String}
 use Rattle.definition.specs.Base.{bytes, good, bad}
@@ -12,8 +12,8 @@ use Rattle.definition.specs.Operators as Op
 use Rattle.definition.specs.Calls as Calls
 use Rattle.definition.specs.declared.Refusal.{Refusal}
 use Rattle.definition.specs.declared.Refusal.TheVariants.{Ceiling, Workspace, Length, Encoding, Prefix, Steps, Charge, Nesting, Spelling, Stack, Leftover, Output}
-use Rattle.definition.specs.declared.Answer.{Answer}
-use Rattle.definition.specs.declared.Answer.TheVariants.{Accepted, Refused}
+use Rattle.definition.specs.declared.Accepted.{Accepted}
+use Rattle.definition.specs.declared.Refused.{Refused}
 use Rattle.definition.specs.declared.NominalKind.{NominalKind}
 use Rattle.definition.specs.declared.NominalKind.TheVariants.{Class, Struct, Enum, Protocol, TypeAlias}
 use Rattle.definition.specs.declared.Param.{Param}
@@ -42,10 +42,14 @@ number Stack = 10
 number Leftover = 11
 number Output = 12
 
+-- the code's `Answer`
+abbrev pub Answer : Type 0
+Answer = Result Accepted Refused
+
 -- an accepted call has number 0 and place 0; a refused one zero counts and length 0
 unfoldable pub values : Answer → Calls.Values
-values (Accepted c n) = record { number = 0; place = 0; steps = c.steps; total = c.total; wraps = c.wraps; length = n }
-values (Refused r p) = record { number = number r; place = p; steps = 0; total = 0; wraps = 0; length = 0 }
+values (Ok a) = record { number = 0; place = 0; steps = a.counts.steps; total = a.counts.total; wraps = a.counts.wraps; length = a.length }
+values (Err x) = record { number = number x.refusal; place = x.place; steps = 0; total = 0; wraps = 0; length = 0 }
 
 unfoldable pub nominal_kind : NominalKind → Node.NominalKind
 nominal_kind Class = Node.Class

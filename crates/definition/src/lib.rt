@@ -1,10 +1,13 @@
 // The types that contracts name. The meaning of each of their cases is in specs/Enums.antt.
 #![tactic(auto)]
 
-// The refusals 1 to 12 of document 01, "How each operation refuses".
-#[derive(Clone, Copy)]
+ghost use Rattle.std.specs.Prelude.{◌≡◌};
+
+// The refusals 1 to 12 of document 01, "How each operation refuses". `refusal as usize` is the
+// number.
+#[derive(Clone, Copy, Debug, PartialEq, Eq)]
 pub enum Refusal {
-    Ceiling,
+    Ceiling = 1,
     Workspace,
     Length,
     Encoding,
@@ -19,19 +22,38 @@ pub enum Refusal {
 }
 
 // The number of turns of `run`, the sum of all charges, and the number of wraps.
-#[derive(Clone, Copy)]
+#[derive(Clone, Copy, Debug, PartialEq, Eq)]
 pub struct Counts {
     pub steps: usize,
     pub total: usize,
     pub wraps: usize,
 }
 
-// The answer of a call: counts and length; or the refusal and its place.
-#[derive(Clone, Copy)]
-pub enum Answer {
-    Accepted(Counts, usize),
-    Refused(Refusal, usize),
+// What is known of a text that is accepted: its counts, and how many elements are written.
+#[derive(Clone, Copy, Debug, PartialEq, Eq)]
+pub struct Accepted {
+    pub counts: Counts,
+    pub length: usize,
 }
+
+// A refusal, and the place of the text that it names.
+#[derive(Clone, Copy, Debug, PartialEq, Eq)]
+pub struct Refused {
+    pub refusal: Refusal,
+    pub place: usize,
+}
+
+impl Refused {
+    // The refusals whose place is the start of the text: 1, 2, 3, 5 and 12.
+    pub fn at_start(refusal: Refusal) -> Refused
+        ensures { result ≡ record { refusal = refusal; place = 0 } }
+    {
+        Refused { refusal, place: 0 }
+    }
+}
+
+// The answer of a call.
+pub type Answer = Result<Accepted, Refused>;
 
 #[derive(Clone, Copy)]
 pub enum NominalKind {
@@ -84,6 +106,8 @@ pub enum Constraint {
 }
 
 // The letter of `v`: the variable itself, an accessor, or a letter that is refused after the stack.
+// Kept: an operand has three meanings here; as a `Result<Option<usize>, Refusal>` it would be read
+// as a step that failed, but such an operator is performed.
 #[derive(Clone, Copy)]
 pub enum Accessor {
     Itself,

@@ -3,7 +3,7 @@
 use Rattle.std.specs.Prelude.{◌≡◌, Bool, true, false, List, [], ◌++◌, ℕ, ◌+◌, ◌-◌, ◌≤◌, ◌<◌, eqb, Option, Result, Ok, Err, length, take, drop}
 use Rattle.std.specs.Io.KnownBytes.{Consumes}
 use Rattle.definition.specs.Text.{Text}
-use Rattle.text_parts.specs.Copied.{part}
+use Rattle.text_cursor.specs.Part.{part}
 use Rattle.line_forms.specs.Lines.{owed}
 use Rattle.line_buffers.specs.declared.Next.{Next}
 use Rattle.line_buffers.specs.declared.Turn.{Turn}

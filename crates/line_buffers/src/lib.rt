@@ -1,5 +1,5 @@
-// The input buffer of the programs `names` and `shapes`: its contents, what is done after a read
-// and after a write, and what is owed for a line that has no newline in the buffer. The contracts
+// The input buffer of the programs `names` and `shapes`: its contents, what is done after a read,
+// and what is owed for a line that has no newline in the buffer. The contracts
 // speak of the answers that are still to be written (`owed` in line_forms/specs/Lines.antt). It is
 // assumed of the system that a read stores the input's next bytes in the slice, and that a write
 // writes the slice.
@@ -17,7 +17,7 @@ use std::io::Read;
 
 // What is done next: input is read; the contents of the buffer are answered; or nothing, because
 // all is answered.
-#[derive(Clone, Copy, Debug, PartialEq, Eq)]
+#[derive(Clone, Copy, PartialEq, Eq)]
 pub enum Next {
     Read,
     Answer,
@@ -44,7 +44,9 @@ impl Error for Failure {}
 
 // How much of a text was read and how many bytes its answers have; whether the rest of the text
 // continues a line that is already answered; and what is done next.
-#[derive(Clone, Copy, Debug)]
+// Kept: `inside` says nothing of the other fields, which are there whether it holds or not, so that
+// this and `State` are no `Option` or enum.
+#[derive(Clone, Copy)]
 pub struct Turn {
     pub read: usize,
     pub written: usize,
@@ -55,7 +57,7 @@ pub struct Turn {
 // A program between two steps. The bytes of the buffer from `from` to `end` are not answered yet.
 // `inside`: they continue a line that is already answered. `ended`: nothing follows them.
 // `written`: how many bytes of the output slice were written last.
-#[derive(Clone, Copy, Debug)]
+#[derive(Clone, Copy)]
 pub struct State {
     pub from: usize,
     pub end: usize,
@@ -99,7 +101,8 @@ impl State {
 
 // A line that has no newline in the buffer: it is the last one; it is longer than any line that is
 // read; more of it has to be read first; or there is none, because the input has ended.
-#[derive(Clone, Copy, Debug, PartialEq, Eq)]
+// Kept: each of the four has a turn of its own, so that this is neither an `Option` nor a `Result`.
+#[derive(Clone, Copy, PartialEq, Eq)]
 pub enum Rest {
     Last,
     Long,

@@ -10,6 +10,8 @@ fn first_newline(text: &[u8]) -> Option<usize>
 }
 
 // Returns the end of the line that begins at `from`.
+// Kept: a text and a place, and not the slice from it on: the callers go from line to line by places
+// in the whole text.
 pub fn line_end(text: &[u8], from: usize) -> usize
     requires { from ≤ length text.now }
     ensures { Ends text.now from result }

@@ -15,7 +15,7 @@ use text_output::Sink;
 pub const LINE: usize = 4096;
 
 // What is asked for each line: the text of a symbol, or its shape.
-#[derive(Clone, Copy, Debug, PartialEq, Eq)]
+#[derive(Clone, Copy)]
 pub enum Asked {
     Name,
     Shape,

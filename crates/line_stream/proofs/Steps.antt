@@ -8,8 +8,8 @@ use native.Mathlib.Omega.{arith}
 use lib.ListN.{length, take, drop, length-drop}
 use lib.Seq.{take-add, drop_at, drop-drop, length-take-le}
 use Rattle.definition.specs.Text.{Text}
-use Rattle.text_parts.specs.Copied.{part}
-use Rattle.text_parts.proofs.Parts.{part_length}
+use Rattle.text_cursor.specs.Part.{part}
+use Rattle.text_cursor.proofs.Parts.{part_length}
 use Rattle.line_forms.specs.Lines.{owed}
 use Rattle.line_buffers.specs.Buffers.{Goes, Turned, kept, due, Holds, Fetched, Filling, Filled, begins, fetched, Stepped, Reading, Took}
 use Rattle.line_buffers.specs.declared.Next.{Next}

@@ -3,7 +3,7 @@ use Rattle.std.specs.Prelude.{◌≡◌, List, ◌++◌, ℕ, ◌+◌, ◌≤◌
 use Rattle.definition.specs.Text.{Text}
 use Rattle.definition.specs.Calls as Calls
 use Rattle.definition.specs.Enums.{values}
-use Rattle.definition.specs.declared.Answer.{Answer}
+use Rattle.definition.specs.Enums.{Answer}
 use Rattle.text_output.specs.declared.Sink.{Sink}
 use Rattle.line_forms.specs.LineEnds.{newline}
 use Rattle.line_forms.specs.Appends.{longest, Appends}

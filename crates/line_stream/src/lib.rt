@@ -13,14 +13,11 @@ ghost use Rattle.std.specs.Io.KnownBytes.{Appends};
 ghost use Rattle.line_forms.specs.Lines.{line_of};
 ghost use Rattle.line_buffers.specs.Buffers.{Turned, Holds, Stepped, Took};
 
-use crate::answers::{answer_line, answer_lines};
+use crate::answers::{WORKSPACE, answer_line, answer_lines};
 use line_buffers::{Failure, Next, Rest, State, Turn, fill, passed, rest_of};
 use line_forms::Asked;
 use std::io::{Read, Write};
 use text_output::Sink;
-
-// 64 × 256 numbers.
-const WORKSPACE: usize = 16384;
 
 // 64 KB of what is read.
 const INPUT: usize = 65536;
@@ -36,17 +33,19 @@ fn turn(
     text: &[u8],
     inside: bool,
     ended: bool,
-    ws: &mut [u32],
-    out: &mut [u8],
+    ws: &mut [u32; WORKSPACE],
+    out: &mut [u8; OUTPUT],
 ) -> Turn
-    requires { (length ws.old ≡ 16384) × (length out.old ≡ 131072) }
-    ensures { Turned (line_of asked) text.now inside ended out.new result × (length ws.new ≡ 16384) }
+    ensures { Turned (line_of asked) text.now inside ended out.new result }
 {
     if inside {
         return passed(text, ended);
     }
-    let room = out.len();
-    let mut sink = Sink { out, at: 0, room };
+    let mut sink = Sink {
+        out,
+        at: 0,
+        room: OUTPUT,
+    };
     let read = answer_lines(asked, text, ws, &mut sink);
     if 0 < read {
         return Turn {
@@ -95,14 +94,13 @@ fn step<R: Read, W: Write>(
     asked: Asked,
     stdin: &mut R,
     stdout: &mut W,
-    input: &mut [u8],
+    input: &mut [u8; INPUT],
     before: State,
-    ws: &mut [u32],
-    out: &mut [u8],
+    ws: &mut [u32; WORKSPACE],
+    out: &mut [u8; OUTPUT],
 ) -> Result<State, Failure>
-    requires ws_len { (length ws.old ≡ 16384) × (length out.old ≡ 131072) }
-    requires holds { Holds input.old before × (length input.old ≡ 65536) }
-    ensures stepped { IfOk result (Stepped (line_of asked) input.old input.new out.new before) × (length ws.new ≡ 16384) × (length input.new ≡ 65536) }
+    requires holds { Holds input.old before }
+    ensures stepped { IfOk result (Stepped (line_of asked) input.old input.new out.new before) }
     ensures read { IfOk result (Took (R.remaining stdin.old) (R.remaining stdin.new) input.new before) }
     ensures wrote { IfOk result (λ s. Appends (W.contents stdout.old) (W.contents stdout.new) (take s.written out.new)) }
 {

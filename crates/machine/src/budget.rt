@@ -3,17 +3,17 @@ ghost use Rattle.std.specs.Prelude.{◌≡◌, ◌*◌, ◌^◌, ◌≤◌, ◌<
 ghost use Rattle.definition.specs.Budget as Definition;
 ghost use Rattle.machine.specs.Spent.{Spending, budget_of};
 
-use definition::Refusal;
+use definition::{Counts, Refusal};
 
 // The number of turns of `run`, the sum of all charges, and the number of wraps.
-#[derive(Clone, Copy, Debug, PartialEq, Eq)]
+#[derive(Clone, Copy)]
 pub struct Budget {
     pub steps: usize,
     pub total: usize,
     pub wraps: usize,
 }
 
-#[tactic(auto, using(crate::proofs::budget::Charging::copies_le), unfolding(definition::specs::Enums::number, definition::specs::Budget::fresh, definition::specs::Budget::step, definition::specs::Budget::charge, definition::specs::Budget::wrap))]
+#[tactic(auto, unfolding(definition::specs::Enums::number, definition::specs::Budget::fresh, definition::specs::Budget::step, definition::specs::Budget::charge, definition::specs::Budget::wrap))]
 impl Budget {
     pub const MOST_STEPS: usize = 4096;
 
@@ -61,16 +61,18 @@ impl Budget {
 
     // Charges that many copies of a node of a size.
     pub fn charge_copies(self, ceiling: usize, size: usize, copies: usize) -> Result<Self, Refusal>
-        requires { (ceiling ≤ 65536) × (1 ≤ size) × (size < 2 ^ 32) }
         ensures { Spending (Definition.charge ceiling (size * copies) (budget_of self)) result }
     {
-        if copies <= ceiling {
-            return self.charge(ceiling, size * copies);
+        match size.checked_mul(copies) {
+            Some(n) => self.charge(ceiling, n),
+            None => Err(Refusal::Charge),
         }
-        Err(Refusal::Charge)
     }
 
     // Counts a type that is wrapped in another.
+    //
+    // Kept: its shape is that of `step`, but the count, the limit and the refusal differ, and a
+    // function over the three would be no shorter.
     pub fn wrap(self) -> Result<Self, Refusal>
         ensures { Spending (Definition.wrap (budget_of self)) result }
     {
@@ -81,5 +83,17 @@ impl Budget {
             });
         }
         Err(Refusal::Nesting)
+    }
+}
+
+impl From<Budget> for Counts {
+    fn from(budget: Budget) -> Counts
+        ensures { result ≡ record { steps = budget.steps; total = budget.total; wraps = budget.wraps } }
+    {
+        Counts {
+            steps: budget.steps,
+            total: budget.total,
+            wraps: budget.wraps,
+        }
     }
 }

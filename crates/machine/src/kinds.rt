@@ -1,12 +1,16 @@
 // Kinds, and the groups that operators ask for.
 ghost use Rattle.std.specs.Prelude.{◌≡◌};
+ghost use Rattle.definition.specs.Enums as Enums;
 ghost use Rattle.definition.specs.Kind as K;
+ghost use Rattle.definition.specs.Node as Node;
 ghost use Rattle.machine.specs.Kinds.{kind_of};
 ghost use Rattle.machine.specs.Wanted.{want_of};
 
+use definition::NominalKind;
+
 // The kinds of nodes. `kind as u32` is the number of a kind, which workspaces and output slices
 // hold.
-#[derive(Clone, Copy, Debug, PartialEq, Eq)]
+#[derive(Clone, Copy, PartialEq, Eq)]
 pub enum Kind {
     Identifier,
     Module,
@@ -54,8 +58,23 @@ impl Kind {
     }
 }
 
+impl From<NominalKind> for Kind {
+    ghost from_gives = { λ k kind. kind_of kind ≡ Node.nominal_kind (Enums.nominal_kind k) };
+
+    #[tactic(auto, unfolding(definition::specs::Node::nominal_kind, definition::specs::Enums::nominal_kind))]
+    fn from(k: NominalKind) -> Kind {
+        match k {
+            NominalKind::Class => Kind::Class,
+            NominalKind::Struct => Kind::Struct,
+            NominalKind::Enum => Kind::Enum,
+            NominalKind::Protocol => Kind::Protocol,
+            NominalKind::TypeAlias => Kind::TypeAlias,
+        }
+    }
+}
+
 // The kinds that can be wanted on top of the stack.
-#[derive(Clone, Copy, Debug, PartialEq, Eq)]
+#[derive(Clone, Copy)]
 pub enum Want {
     Anything,
     Type,

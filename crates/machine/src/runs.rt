@@ -6,7 +6,7 @@ ghost use Rattle.machine.specs.RunEnds.{kinds_of};
 use crate::kinds::{Kind, is_type};
 
 // What a call accepts at its end: a symbol (all but a bare identifier), or a type.
-#[derive(Clone, Copy, Debug, PartialEq, Eq)]
+#[derive(Clone, Copy, PartialEq, Eq)]
 pub enum Final {
     Symbol,
     Type,

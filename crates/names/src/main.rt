@@ -4,6 +4,7 @@
 
 use line_forms::Asked;
 
+// Kept: two programs have two functions `main`; each is one call of `line_stream`.
 fn main(rt: HostRuntime) {
     line_stream::answer_input(
         Asked::Name,

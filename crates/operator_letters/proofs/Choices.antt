@@ -1,11 +1,11 @@
 -- The steps that choose by a letter. Assumes nothing.
-use mathlib.Core.Path.{◌≡◌, refl, ap, ◌∙◌}
-use mathlib.Core.List.{List, ◌∷◌}
+use mathlib.Core.Path.{◌≡◌, refl}
+use mathlib.Core.List.{List}
 use mathlib.Core.Option.{some, none}
-use Prim.Native.Nat.{ℕ, ◌+◌, ◌-◌, ◌≤◌, ◌<◌}
+use Prim.Native.Nat.{ℕ, ◌+◌, ◌<◌}
 use Prim.Native.Char.{Char}
 use native.Mathlib.Omega.{arith}
-use lib.ListN.{length, get_or, drop, length-drop}
+use lib.ListN.{length, get_or, drop}
 use Rattle.std.specs.Prelude.{Result}
 use Rattle.definition.specs.Base.{ok, refused, pick}
 use Rattle.definition.specs.Text.{Text, Lex, next}
@@ -38,14 +38,6 @@ required {old = old} s e h = reads_on (rw (next_cons _ s.is, requirement_letters
 pub required_index : {old mid new : Reader} {b : ℕ} {r : Result Operator Refusal} → Stands (next (rest old)) b 1 old mid → pick b requirements ≡ none → ReadsOperator (requiring on_param conforms) old new r → ReadsOperator requirement_letters old new r
 unfolding requirement_letters
 required_index {old = old} s e h = reads_on (rw (next_cons _ s.is, requirement_letters, e) refl) refl (omega arith) h
-
--- one byte was read
-pub one_on : (old : Reader) {new : Reader} {b : ℕ} → rest old ≡ b ∷ rest new → new.text ≡ old.text → new.at ≤ length new.text.now → new.at ≡ old.at + 1
-one_on old {new} {b} e t i =
-    let k : new.at ≤ length old.text.now = rw (← t) i in
-    let n : rest new ≡ drop new.at old.text.now = rw t refl in
-    let l : length old.text.now - old.at ≡ length old.text.now - new.at + 1 = omega (arith, simp length-drop at (ap length (e ∙ ap (λ (u : Text). b ∷ u) n))) in
-    omega arith
 
 -- the operator at a place of a text
 pub first_is : (text : Text) (at : ℕ) → at < length text → first_operator (drop at text) ≡ Op.operator (get_or text at 0) (drop (at + 1) text)

@@ -1,6 +1,6 @@
 -- What the result of a function says about a step of the definition that reads an operator. Assumes
 -- nothing.
-use Rattle.std.specs.Prelude.{◌≡◌, ◌+◌, ◌≤◌, ◌∷◌, length, Result, MatchResult, Option, Some, None}
+use Rattle.std.specs.Prelude.{◌≡◌, ◌∷◌, ◌⊎◌, ◌+◌, drop, Result, Ok, Err}
 use Rattle.definition.specs.Base.{refused, ◌>>=◌}
 use Rattle.definition.specs.Text.{Lex, next}
 use Rattle.definition.specs.Operators as Op
@@ -20,18 +20,12 @@ ReadsSubject = Reads Enums.subject 0
 abbrev pub first_operator : Lex Op.Operator
 first_operator = next >>= Op.operator
 
--- the letter `A` was taken
-pub record OpensChain (old new : Reader) : Type 0 where
-  pub letter : rest old ≡ 65 ∷ rest new
-  pub text : new.text ≡ old.text
-  pub inside : new.at ≤ length new.text.now
-  pub next : new.at ≡ old.at + 1
+-- the letter `A` begins at the reader's place
+abbrev pub IsChain : Reader → Type 0
+IsChain r = rest r ≡ 65 ∷ drop (r.at + 1) r.text.now
 
--- an operator, or the letter `A`
-abbrev pub Begun : Reader → Reader → Option Operator → Type 0
-Begun old new (Some q) = Stands (first_operator (rest old)) (Enums.operator fixed q) 1 old new
-Begun old new None = OpensChain old new
-
--- the operator that begins at `old`
-pub record Begins (old new : Reader) (r : Result (Option Operator) Refusal) : Type 0 where
-  pub says : MatchResult r (Begun old new) (λ f. first_operator (rest old) ≡ refused (Enums.number f))
+-- the operator that begins at `old`. It is refused as in the definition, and so is the letter `A`,
+-- whose items the run reads
+abbrev pub Begins : Reader → Reader → Result Operator Refusal → Type 0
+Begins old new (Ok q) = Stands (first_operator (rest old)) (Enums.operator fixed q) 1 old new
+Begins old new (Err f) = IsChain old ⊎ (first_operator (rest old) ≡ refused (Enums.number f))

@@ -13,18 +13,22 @@ ghost use Rattle.operator_letters.specs.OperatorsRead.{ReadsSubject, Begins};
 use definition::{
     About, Accessor, Constraint, Leaf, NominalKind, Operator, Param, Refusal, Subject,
 };
-use operator_operands::names;
+use operator_names::Name;
 use operator_operands::signatures::generic_signature;
 use operator_operands::standard_types::standard;
 use text_cursor::Reader;
 
 // What a requirement constrains, before the parameter is read.
-#[derive(Clone, Copy, Debug)]
+#[derive(Clone, Copy)]
 enum Target {
     Param,
     Stack,
     Member,
 }
+
+// Kept: that the reader is not past the text's end is required (by `subject`, `requiring`,
+// `variable` and others) where the next byte may be left: the new place is then the old one, and is
+// promised to be inside.
 
 // Operators that consist of letters only
 
@@ -45,7 +49,10 @@ fn special_type(text: &mut Reader) -> Result<Operator, Refusal>
 {
     match text.next()? {
         b'E' | b'B' | b'C' | b'A' | b'K' | b'f' | b'L' | b'U' => Ok(Operator::FunctionType),
-        b'l' => Ok(Operator::Leaf(Leaf::StandardNominal(NominalKind::Protocol, names::ANY_OBJECT))),
+        b'l' => Ok(Operator::Leaf(Leaf::StandardNominal(
+            NominalKind::Protocol,
+            Name::AnyObject as usize,
+        ))),
         b'M' => any_byte(text),
         b'p' => Ok(Operator::Metatype),
         _ => Err(Refusal::Spelling),
@@ -72,8 +79,8 @@ fn function_entity(text: &mut Reader) -> Result<Operator, Refusal>
         b'D' => Ok(Operator::Deinitializer(true)),
         b'd' => Ok(Operator::Deinitializer(false)),
         b'i' => Ok(Operator::VariableInitializer),
-        b'e' => Ok(Operator::Record(About::Context, names::IVAR_INITIALIZER)),
-        b'E' => Ok(Operator::Record(About::Context, names::IVAR_DESTROYER)),
+        b'e' => Ok(Operator::Record(About::Context, Name::IvarInitializer as usize)),
+        b'E' => Ok(Operator::Record(About::Context, Name::IvarDestroyer as usize)),
         _ => Err(Refusal::Spelling),
     }
 }
@@ -83,9 +90,9 @@ fn context_descriptor(text: &mut Reader) -> Result<Operator, Refusal>
     ensures { ReadsOperator (Op.choose Op.context_descriptors) text.old text.new result }
 {
     match text.next()? {
-        b'M' => Ok(Operator::Record(About::Context, names::MODULE_DESCRIPTOR)),
-        b'E' => Ok(Operator::Record(About::Context, names::EXTENSION_DESCRIPTOR)),
-        b'X' => Ok(Operator::Record(About::Context, names::ANONYMOUS_DESCRIPTOR)),
+        b'M' => Ok(Operator::Record(About::Context, Name::ModuleDescriptor as usize)),
+        b'E' => Ok(Operator::Record(About::Context, Name::ExtensionDescriptor as usize)),
+        b'X' => Ok(Operator::Record(About::Context, Name::AnonymousDescriptor as usize)),
         _ => Err(Refusal::Spelling),
     }
 }
@@ -95,38 +102,50 @@ fn metatype_record(text: &mut Reader) -> Result<Operator, Refusal>
     ensures { ReadsOperator (Op.choose_then Op.metatype_records) text.old text.new result }
 {
     match text.next()? {
-        b'a' => Ok(Operator::Record(About::Type, names::TYPE_METADATA_ACCESSOR)),
-        b'f' => Ok(Operator::Record(About::Type, names::FULL_TYPE_METADATA)),
-        b'm' => Ok(Operator::Record(About::Type, names::METACLASS)),
-        b'n' => Ok(Operator::Record(About::Type, names::NOMINAL_TYPE_DESCRIPTOR)),
-        b'F' => Ok(Operator::Record(About::Type, names::REFLECTION_METADATA_FIELD_DESCRIPTOR)),
-        b'B' => Ok(Operator::Record(About::Type, names::REFLECTION_METADATA_BUILTIN_DESCRIPTOR)),
+        b'a' => Ok(Operator::Record(About::Type, Name::TypeMetadataAccessor as usize)),
+        b'f' => Ok(Operator::Record(About::Type, Name::FullTypeMetadata as usize)),
+        b'm' => Ok(Operator::Record(About::Type, Name::Metaclass as usize)),
+        b'n' => Ok(Operator::Record(About::Type, Name::NominalTypeDescriptor as usize)),
+        b'F' => Ok(Operator::Record(
+            About::Type,
+            Name::ReflectionMetadataFieldDescriptor as usize,
+        )),
+        b'B' => Ok(Operator::Record(
+            About::Type,
+            Name::ReflectionMetadataBuiltinDescriptor as usize,
+        )),
         b'S' => Ok(Operator::Record(
             About::Type,
-            names::REFLECTION_METADATA_SUPERCLASS_DESCRIPTOR,
+            Name::ReflectionMetadataSuperclassDescriptor as usize,
         )),
         b'A' => Ok(Operator::Record(
             About::Type,
-            names::REFLECTION_METADATA_ASSOC_TYPE_DESCRIPTOR,
+            Name::ReflectionMetadataAssocTypeDescriptor as usize,
         )),
-        b'p' => Ok(Operator::Record(About::Protocol, names::PROTOCOL_DESCRIPTOR)),
-        b'c' => Ok(Operator::Record(About::Conformance, names::PROTOCOL_CONFORMANCE_DESCRIPTOR)),
-        b'V' => Ok(Operator::Record(About::Entity, names::PROPERTY_DESCRIPTOR)),
-        b'K' => Ok(Operator::Record(About::Anything, names::METADATA_INSTANTIATION_CACHE)),
-        b'L' => Ok(Operator::Record(About::Type, names::LAZY_CACHE_VARIABLE_FOR_TYPE_METADATA)),
-        b'i' => Ok(Operator::Record(About::Type, names::TYPE_METADATA_INSTANTIATION_FUNCTION)),
-        b'I' => Ok(Operator::Record(About::Type, names::TYPE_METADATA_INSTANTIATION_CACHE)),
+        b'p' => Ok(Operator::Record(About::Protocol, Name::ProtocolDescriptor as usize)),
+        b'c' => Ok(Operator::Record(
+            About::Conformance,
+            Name::ProtocolConformanceDescriptor as usize,
+        )),
+        b'V' => Ok(Operator::Record(About::Entity, Name::PropertyDescriptor as usize)),
+        b'K' => Ok(Operator::Record(About::Anything, Name::MetadataInstantiationCache as usize)),
+        b'L' => Ok(Operator::Record(About::Type, Name::LazyCacheVariableForTypeMetadata as usize)),
+        b'i' => Ok(Operator::Record(
+            About::Type,
+            Name::TypeMetadataInstantiationFunction as usize,
+        )),
+        b'I' => Ok(Operator::Record(About::Type, Name::TypeMetadataInstantiationCache as usize)),
         b'l' => Ok(Operator::Record(
             About::Type,
-            names::TYPE_METADATA_SINGLETON_INITIALIZATION_CACHE,
+            Name::TypeMetadataSingletonInitializationCache as usize,
         )),
-        b'r' => Ok(Operator::Record(About::Type, names::TYPE_METADATA_COMPLETION_FUNCTION)),
-        b'P' => Ok(Operator::Record(About::Type, names::GENERIC_TYPE_METADATA_PATTERN)),
+        b'r' => Ok(Operator::Record(About::Type, Name::TypeMetadataCompletionFunction as usize)),
+        b'P' => Ok(Operator::Record(About::Type, Name::GenericTypeMetadataPattern as usize)),
         b'd' => Ok(Operator::Record(
             About::Type,
-            names::DEMANGLING_CACHE_VARIABLE_FOR_TYPE_METADATA,
+            Name::DemanglingCacheVariableForTypeMetadata as usize,
         )),
-        b'R' => Ok(Operator::Record(About::Type, names::MANGLED_NAME_REF_FOR_TYPE_METADATA)),
+        b'R' => Ok(Operator::Record(About::Type, Name::MangledNameRefForTypeMetadata as usize)),
         b'X' => context_descriptor(text),
         _ => Err(Refusal::Spelling),
     }
@@ -137,8 +156,8 @@ fn field_offset(text: &mut Reader) -> Result<Operator, Refusal>
     ensures { ReadsOperator (Op.choose Op.field_offsets) text.old text.new result }
 {
     match text.next()? {
-        b'd' => Ok(Operator::Record(About::Entity, names::DIRECT_FIELD_OFFSET)),
-        b'i' => Ok(Operator::Record(About::Entity, names::INDIRECT_FIELD_OFFSET)),
+        b'd' => Ok(Operator::Record(About::Entity, Name::DirectFieldOffset as usize)),
+        b'i' => Ok(Operator::Record(About::Entity, Name::IndirectFieldOffset as usize)),
         _ => Err(Refusal::Spelling),
     }
 }
@@ -148,16 +167,22 @@ fn witness(text: &mut Reader) -> Result<Operator, Refusal>
     ensures { ReadsOperator (Op.choose_then Op.witnesses) text.old text.new result }
 {
     match text.next()? {
-        b'V' => Ok(Operator::Record(About::Type, names::VALUE_WITNESS_TABLE)),
+        b'V' => Ok(Operator::Record(About::Type, Name::ValueWitnessTable as usize)),
         b'v' => field_offset(text),
-        b'l' => Ok(Operator::LazyWitness(names::LAZY_PROTOCOL_WITNESS_TABLE_ACCESSOR)),
-        b'L' => Ok(Operator::LazyWitness(names::LAZY_PROTOCOL_WITNESS_TABLE_CACHE_VARIABLE)),
-        b'P' => Ok(Operator::Record(About::Conformance, names::PROTOCOL_WITNESS_TABLE)),
-        b'p' => Ok(Operator::Record(About::Conformance, names::PROTOCOL_WITNESS_TABLE_PATTERN)),
-        b'a' => Ok(Operator::Record(About::Conformance, names::PROTOCOL_WITNESS_TABLE_ACCESSOR)),
+        b'l' => Ok(Operator::LazyWitness(Name::LazyProtocolWitnessTableAccessor as usize)),
+        b'L' => Ok(Operator::LazyWitness(Name::LazyProtocolWitnessTableCacheVariable as usize)),
+        b'P' => Ok(Operator::Record(About::Conformance, Name::ProtocolWitnessTable as usize)),
+        b'p' => Ok(Operator::Record(
+            About::Conformance,
+            Name::ProtocolWitnessTablePattern as usize,
+        )),
+        b'a' => Ok(Operator::Record(
+            About::Conformance,
+            Name::ProtocolWitnessTableAccessor as usize,
+        )),
         b'S' => Ok(Operator::Record(
             About::Conformance,
-            names::PROTOCOL_SELF_CONFORMANCE_WITNESS_TABLE,
+            Name::ProtocolSelfConformanceWitnessTable as usize,
         )),
         _ => Err(Refusal::Spelling),
     }
@@ -178,22 +203,25 @@ fn thunk(text: &mut Reader) -> Result<Operator, Refusal>
         b'W' => Ok(Operator::ProtocolWitness),
         b'L' => Ok(Operator::Record(
             About::Protocol,
-            names::PROTOCOL_REQUIREMENTS_BASE_DESCRIPTOR,
+            Name::ProtocolRequirementsBaseDescriptor as usize,
         )),
-        b'S' => Ok(Operator::Record(About::Protocol, names::PROTOCOL_SELF_CONFORMANCE_DESCRIPTOR)),
+        b'S' => Ok(Operator::Record(
+            About::Protocol,
+            Name::ProtocolSelfConformanceDescriptor as usize,
+        )),
         b'l' => Ok(Operator::AssociatedType),
         b'n' => Ok(Operator::AssociatedConformance),
         b'Y' => suspend_resume(text),
-        b'q' => Ok(Operator::Record(About::Entity, names::METHOD_DESCRIPTOR)),
-        b'u' => Ok(Operator::Record(About::Entity, names::ASYNC_FUNCTION_POINTER)),
-        b'j' => Ok(Operator::Record(About::Entity, names::DISPATCH_THUNK)),
-        b'V' => Ok(Operator::Record(About::Entity, names::VTABLE_THUNK)),
-        b'o' => Ok(Operator::Record(About::Entity, names::OBJC)),
-        b'O' => Ok(Operator::Record(About::Entity, names::NON_OBJC)),
-        b'D' => Ok(Operator::Record(About::Entity, names::DYNAMICALLY_REPLACEABLE_FUNCTION)),
-        b'I' => Ok(Operator::Record(About::Entity, names::DYNAMICALLY_REPLACEABLE_VARIABLE)),
-        b'X' => Ok(Operator::Record(About::Entity, names::DYNAMICALLY_REPLACEABLE_KEY)),
-        b'm' => Ok(Operator::Record(About::Entity, names::MERGED)),
+        b'q' => Ok(Operator::Record(About::Entity, Name::MethodDescriptor as usize)),
+        b'u' => Ok(Operator::Record(About::Entity, Name::AsyncFunctionPointer as usize)),
+        b'j' => Ok(Operator::Record(About::Entity, Name::DispatchThunk as usize)),
+        b'V' => Ok(Operator::Record(About::Entity, Name::VtableThunk as usize)),
+        b'o' => Ok(Operator::Record(About::Entity, Name::ObjC as usize)),
+        b'O' => Ok(Operator::Record(About::Entity, Name::NonObjC as usize)),
+        b'D' => Ok(Operator::Record(About::Entity, Name::DynamicallyReplaceableFunction as usize)),
+        b'I' => Ok(Operator::Record(About::Entity, Name::DynamicallyReplaceableVariable as usize)),
+        b'X' => Ok(Operator::Record(About::Entity, Name::DynamicallyReplaceableKey as usize)),
+        b'm' => Ok(Operator::Record(About::Entity, Name::Merged as usize)),
         _ => Err(Refusal::Spelling),
     }
 }
@@ -286,16 +314,16 @@ fn accessor_of(b: u8) -> Accessor
 {
     match b {
         b'p' => Accessor::Itself,
-        b'g' => Accessor::Named(names::GETTER),
-        b's' => Accessor::Named(names::SETTER),
-        b'M' => Accessor::Named(names::MODIFY),
-        b'r' => Accessor::Named(names::READ),
-        b'm' => Accessor::Named(names::MATERIALIZE_FOR_SET),
-        b'w' => Accessor::Named(names::WILLSET),
-        b'W' => Accessor::Named(names::DIDSET),
-        b'G' => Accessor::Named(names::UNSAFE_ADDRESSOR),
-        b'a' => Accessor::Named(names::UNSAFE_MUTABLE_ADDRESSOR),
-        b'l' => Accessor::Named(names::MODIFY_BY_L),
+        b'g' => Accessor::Named(Name::Getter as usize),
+        b's' => Accessor::Named(Name::Setter as usize),
+        b'M' => Accessor::Named(Name::Modify as usize),
+        b'r' => Accessor::Named(Name::Read as usize),
+        b'm' => Accessor::Named(Name::MaterializeForSet as usize),
+        b'w' => Accessor::Named(Name::WillSet as usize),
+        b'W' => Accessor::Named(Name::DidSet as usize),
+        b'G' => Accessor::Named(Name::UnsafeAddressor as usize),
+        b'a' => Accessor::Named(Name::UnsafeMutableAddressor as usize),
+        b'l' => Accessor::Named(Name::ModifyCoroutine as usize),
         _ => Accessor::Broken,
     }
 }
@@ -318,30 +346,30 @@ fn witness_name(a: u8, b: u8) -> Option<usize>
     ensures { name_if_any result ≡ witness_letters a b }
 {
     Some(match (a, b) {
-        (b'a', b'l') => names::ALLOCATE_BUFFER,
-        (b'c', b'a') => names::ASSIGN_WITH_COPY,
-        (b'c', b'p') => names::INITIALIZE_WITH_COPY,
-        (b't', b'a') => names::ASSIGN_WITH_TAKE,
-        (b't', b'k') => names::INITIALIZE_WITH_TAKE,
-        (b't', b'T') => names::INITIALIZE_ARRAY_WITH_TAKE_BACK_TO_FRONT,
-        (b'd', b'e') => names::DEALLOCATE_BUFFER,
-        (b'x', b'x') => names::DESTROY,
-        (b'x', b's') => names::STORE_EXTRA_INHABITANT,
-        (b'x', b'g') => names::GET_EXTRA_INHABITANT_INDEX,
-        (b'X', b'X') => names::DESTROY_BUFFER,
-        (b'X', b'x') => names::DESTROY_ARRAY,
-        (b'C', b'P') => names::INITIALIZE_BUFFER_WITH_COPY_OF_BUFFER,
-        (b'C', b'p') => names::INITIALIZE_BUFFER_WITH_COPY,
-        (b'C', b'c') => names::INITIALIZE_ARRAY_WITH_COPY,
-        (b'T', b'k') => names::INITIALIZE_BUFFER_WITH_TAKE,
-        (b'T', b'K') => names::INITIALIZE_BUFFER_WITH_TAKE_OF_BUFFER,
-        (b'T', b't') => names::INITIALIZE_ARRAY_WITH_TAKE_FRONT_TO_BACK,
-        (b'p', b'r') => names::PROJECT_BUFFER,
-        (b'u', b'g') => names::GET_ENUM_TAG,
-        (b'u', b'p') => names::DESTRUCTIVE_PROJECT_ENUM_DATA,
-        (b'u', b'i') => names::DESTRUCTIVE_INJECT_ENUM_TAG,
-        (b'e', b't') => names::GET_ENUM_TAG_SINGLE_PAYLOAD,
-        (b's', b't') => names::STORE_ENUM_TAG_SINGLE_PAYLOAD,
+        (b'a', b'l') => Name::AllocateBuffer as usize,
+        (b'c', b'a') => Name::AssignWithCopy as usize,
+        (b'c', b'p') => Name::InitializeWithCopy as usize,
+        (b't', b'a') => Name::AssignWithTake as usize,
+        (b't', b'k') => Name::InitializeWithTake as usize,
+        (b't', b'T') => Name::InitializeArrayWithTakeBackToFront as usize,
+        (b'd', b'e') => Name::DeallocateBuffer as usize,
+        (b'x', b'x') => Name::Destroy as usize,
+        (b'x', b's') => Name::StoreExtraInhabitant as usize,
+        (b'x', b'g') => Name::GetExtraInhabitantIndex as usize,
+        (b'X', b'X') => Name::DestroyBuffer as usize,
+        (b'X', b'x') => Name::DestroyArray as usize,
+        (b'C', b'P') => Name::InitializeBufferWithCopyOfBuffer as usize,
+        (b'C', b'p') => Name::InitializeBufferWithCopy as usize,
+        (b'C', b'c') => Name::InitializeArrayWithCopy as usize,
+        (b'T', b'k') => Name::InitializeBufferWithTake as usize,
+        (b'T', b'K') => Name::InitializeBufferWithTakeOfBuffer as usize,
+        (b'T', b't') => Name::InitializeArrayWithTakeFrontToBack as usize,
+        (b'p', b'r') => Name::ProjectBuffer as usize,
+        (b'u', b'g') => Name::GetEnumTag as usize,
+        (b'u', b'p') => Name::DestructiveProjectEnumData as usize,
+        (b'u', b'i') => Name::DestructiveInjectEnumTag as usize,
+        (b'e', b't') => Name::GetEnumTagSinglePayload as usize,
+        (b's', b't') => Name::StoreEnumTagSinglePayload as usize,
         _ => return None,
     })
 }
@@ -370,7 +398,7 @@ fn operator_of(text: &mut Reader, b: u8) -> Result<Operator, Refusal>
         b'P' => Operator::Nominal(NominalKind::Protocol),
         b'a' => Operator::Nominal(NominalKind::TypeAlias),
         b'S' => return standard(text),
-        b's' => Operator::Leaf(Leaf::Module(names::SWIFT)),
+        b's' => Operator::Leaf(Leaf::Module(Name::Swift as usize)),
         b'y' => Operator::Leaf(Leaf::EmptyList),
         b'_' => Operator::Leaf(Leaf::FirstElementMarker),
         b'd' => Operator::Leaf(Leaf::VariadicMarker),
@@ -394,7 +422,7 @@ fn operator_of(text: &mut Reader, b: u8) -> Result<Operator, Refusal>
         b'f' => return function_entity(text),
         b'Z' => Operator::Static,
         b'M' => return metatype_record(text),
-        b'N' => Operator::Record(About::Type, names::TYPE_METADATA),
+        b'N' => Operator::Record(About::Type, Name::TypeMetadata as usize),
         b'W' => return witness(text),
         b'w' => return value_witness(text),
         b'T' => return thunk(text),
@@ -403,13 +431,14 @@ fn operator_of(text: &mut Reader, b: u8) -> Result<Operator, Refusal>
     Ok(op)
 }
 
-// Reads the operator at the place. `None` is `A`, whose letters are read and performed one by one.
-pub fn operator(text: &mut Reader) -> Result<Option<Operator>, Refusal>
+// Reads an operator other than `A`. The run takes the letter `A` before it, whose items are
+// performed one by one, so here it is refused like a letter that no operator begins with.
+pub fn other_operator(text: &mut Reader) -> Result<Operator, Refusal>
     ensures { Begins text.old text.new result }
 {
     let b = text.next()?;
     if b == b'A' {
-        return Ok(None);
+        return Err(Refusal::Spelling);
     }
-    Ok(Some(operator_of(text, b)?))
+    operator_of(text, b)
 }

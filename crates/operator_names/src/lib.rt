@@ -201,11 +201,16 @@ pub enum Text {
 }
 
 // How many names there are. In the row that both share, the texts follow the names.
-pub const NAMES: usize = 134;
+pub const NAMES: usize = Name::AssociatedTypeDescriptor as usize + 1;
 
-pub const TEXTS: usize = 37;
+pub const TEXTS: usize = Text::Quote as usize + 1;
 
-// The names 0 to 51: modules, a protocol and standard types.
+// The first names of the second and the third row of names below.
+const SECOND_FROM: usize = Name::Getter as usize;
+
+const THIRD_FROM: usize = Name::AllocateBuffer as usize;
+
+// The names from the first on: modules, a protocol and standard types.
 static FIRST: [&[u8]; 52] = [
     b"Swift",
     b"__C",
@@ -261,7 +266,7 @@ static FIRST: [&[u8]; 52] = [
     b"BinaryInteger",
 ];
 
-// The names 52 to 96: accessors, entities, descriptors, metadata, offsets and witnesses.
+// The names from `Getter` on: accessors, entities, descriptors, metadata, offsets and witnesses.
 static SECOND: [&[u8]; 45] = [
     b"getter",
     b"setter",
@@ -310,7 +315,7 @@ static SECOND: [&[u8]; 45] = [
     b"protocol self-conformance witness table for ",
 ];
 
-// The names 97 to 133: value witnesses, thunks and the associated type.
+// The names from `AllocateBuffer` on: value witnesses, thunks and the associated type.
 static THIRD: [&[u8]; 37] = [
     b"allocateBuffer",
     b"assignWithCopy",
@@ -404,14 +409,14 @@ fn name_at(row: &'static [&'static [u8]], i: usize) -> &'static [u8]
 pub fn fixed_name(n: usize) -> &'static [u8]
     ensures { result.now ≡ bytes (numbered n) }
 {
-    if n < 52 {
+    if n < SECOND_FROM {
         return name_at(&FIRST, n);
     }
-    if n < 97 {
-        return name_at(&SECOND, n - 52);
+    if n < THIRD_FROM {
+        return name_at(&SECOND, n - SECOND_FROM);
     }
     if n < NAMES {
-        return name_at(&THIRD, n - 97);
+        return name_at(&THIRD, n - THIRD_FROM);
     }
     if n < NAMES + TEXTS {
         return name_at(&FOURTH, n - NAMES);

@@ -5,9 +5,9 @@ ghost use Rattle.definition.specs.Operators as Op;
 ghost use Rattle.operator_operands.specs.Standard.{entry, repeated};
 ghost use Rattle.operator_operands.specs.OperatorReads.{ReadsOperator};
 
-use crate::names;
 use definition::{Leaf, NominalKind, Operator, Refusal};
 use machine::budget::Budget;
+use operator_names::Name;
 use text_cursor::Reader;
 
 // The standard type of a letter: its kind, and the number of its name.
@@ -15,60 +15,69 @@ fn standard_type(b: u8) -> Option<(NominalKind, usize)>
     ensures { entry result ≡ pick b Op.standard_types }
 {
     Some(match b {
-        b'a' => (NominalKind::Struct, names::ARRAY),
+        b'a' => (NominalKind::Struct, Name::Array as usize),
         b'A' => (
             NominalKind::Struct,
-            names::AUTORELEASING_UNSAFE_MUTABLE_POINTER,
+            Name::AutoreleasingUnsafeMutablePointer as usize,
         ),
-        b'b' => (NominalKind::Struct, names::BOOL),
-        b'D' => (NominalKind::Struct, names::DICTIONARY),
-        b'd' => (NominalKind::Struct, names::DOUBLE),
-        b'f' => (NominalKind::Struct, names::FLOAT),
-        b'h' => (NominalKind::Struct, names::SET),
-        b'I' => (NominalKind::Struct, names::DEFAULT_INDICES),
-        b'i' => (NominalKind::Struct, names::INT),
-        b'J' => (NominalKind::Struct, names::CHARACTER),
-        b'N' => (NominalKind::Struct, names::CLOSED_RANGE),
-        b'n' => (NominalKind::Struct, names::RANGE),
-        b'O' => (NominalKind::Struct, names::OBJECT_IDENTIFIER),
-        b'P' => (NominalKind::Struct, names::UNSAFE_POINTER),
-        b'p' => (NominalKind::Struct, names::UNSAFE_MUTABLE_POINTER),
-        b'R' => (NominalKind::Struct, names::UNSAFE_BUFFER_POINTER),
-        b'r' => (NominalKind::Struct, names::UNSAFE_MUTABLE_BUFFER_POINTER),
-        b'S' => (NominalKind::Struct, names::STRING),
-        b's' => (NominalKind::Struct, names::SUBSTRING),
-        b'u' => (NominalKind::Struct, names::U_INT),
-        b'V' => (NominalKind::Struct, names::UNSAFE_RAW_POINTER),
-        b'v' => (NominalKind::Struct, names::UNSAFE_MUTABLE_RAW_POINTER),
-        b'W' => (NominalKind::Struct, names::UNSAFE_RAW_BUFFER_POINTER),
+        b'b' => (NominalKind::Struct, Name::Bool as usize),
+        b'D' => (NominalKind::Struct, Name::Dictionary as usize),
+        b'd' => (NominalKind::Struct, Name::Double as usize),
+        b'f' => (NominalKind::Struct, Name::Float as usize),
+        b'h' => (NominalKind::Struct, Name::Set as usize),
+        b'I' => (NominalKind::Struct, Name::DefaultIndices as usize),
+        b'i' => (NominalKind::Struct, Name::Int as usize),
+        b'J' => (NominalKind::Struct, Name::Character as usize),
+        b'N' => (NominalKind::Struct, Name::ClosedRange as usize),
+        b'n' => (NominalKind::Struct, Name::Range as usize),
+        b'O' => (NominalKind::Struct, Name::ObjectIdentifier as usize),
+        b'P' => (NominalKind::Struct, Name::UnsafePointer as usize),
+        b'p' => (NominalKind::Struct, Name::UnsafeMutablePointer as usize),
+        b'R' => (NominalKind::Struct, Name::UnsafeBufferPointer as usize),
+        b'r' => (
+            NominalKind::Struct,
+            Name::UnsafeMutableBufferPointer as usize,
+        ),
+        b'S' => (NominalKind::Struct, Name::String as usize),
+        b's' => (NominalKind::Struct, Name::Substring as usize),
+        b'u' => (NominalKind::Struct, Name::UInt as usize),
+        b'V' => (NominalKind::Struct, Name::UnsafeRawPointer as usize),
+        b'v' => (NominalKind::Struct, Name::UnsafeMutableRawPointer as usize),
+        b'W' => (NominalKind::Struct, Name::UnsafeRawBufferPointer as usize),
         b'w' => (
             NominalKind::Struct,
-            names::UNSAFE_MUTABLE_RAW_BUFFER_POINTER,
+            Name::UnsafeMutableRawBufferPointer as usize,
         ),
-        b'q' => (NominalKind::Enum, names::OPTIONAL),
-        b'B' => (NominalKind::Protocol, names::BINARY_FLOATING_POINT),
-        b'E' => (NominalKind::Protocol, names::ENCODABLE),
-        b'e' => (NominalKind::Protocol, names::DECODABLE),
-        b'F' => (NominalKind::Protocol, names::FLOATING_POINT),
-        b'G' => (NominalKind::Protocol, names::RANDOM_NUMBER_GENERATOR),
-        b'H' => (NominalKind::Protocol, names::HASHABLE),
-        b'j' => (NominalKind::Protocol, names::NUMERIC),
-        b'K' => (NominalKind::Protocol, names::BIDIRECTIONAL_COLLECTION),
-        b'k' => (NominalKind::Protocol, names::RANDOM_ACCESS_COLLECTION),
-        b'L' => (NominalKind::Protocol, names::COMPARABLE),
-        b'l' => (NominalKind::Protocol, names::COLLECTION),
-        b'M' => (NominalKind::Protocol, names::MUTABLE_COLLECTION),
-        b'm' => (NominalKind::Protocol, names::RANGE_REPLACEABLE_COLLECTION),
-        b'Q' => (NominalKind::Protocol, names::EQUATABLE),
-        b'T' => (NominalKind::Protocol, names::SEQUENCE),
-        b't' => (NominalKind::Protocol, names::ITERATOR_PROTOCOL),
-        b'U' => (NominalKind::Protocol, names::UNSIGNED_INTEGER),
-        b'X' => (NominalKind::Protocol, names::RANGE_EXPRESSION),
-        b'x' => (NominalKind::Protocol, names::STRIDEABLE),
-        b'Y' => (NominalKind::Protocol, names::RAW_REPRESENTABLE),
-        b'y' => (NominalKind::Protocol, names::STRING_PROTOCOL),
-        b'Z' => (NominalKind::Protocol, names::SIGNED_INTEGER),
-        b'z' => (NominalKind::Protocol, names::BINARY_INTEGER),
+        b'q' => (NominalKind::Enum, Name::Optional as usize),
+        b'B' => (NominalKind::Protocol, Name::BinaryFloatingPoint as usize),
+        b'E' => (NominalKind::Protocol, Name::Encodable as usize),
+        b'e' => (NominalKind::Protocol, Name::Decodable as usize),
+        b'F' => (NominalKind::Protocol, Name::FloatingPoint as usize),
+        b'G' => (NominalKind::Protocol, Name::RandomNumberGenerator as usize),
+        b'H' => (NominalKind::Protocol, Name::Hashable as usize),
+        b'j' => (NominalKind::Protocol, Name::Numeric as usize),
+        b'K' => (
+            NominalKind::Protocol,
+            Name::BidirectionalCollection as usize,
+        ),
+        b'k' => (NominalKind::Protocol, Name::RandomAccessCollection as usize),
+        b'L' => (NominalKind::Protocol, Name::Comparable as usize),
+        b'l' => (NominalKind::Protocol, Name::Collection as usize),
+        b'M' => (NominalKind::Protocol, Name::MutableCollection as usize),
+        b'm' => (
+            NominalKind::Protocol,
+            Name::RangeReplaceableCollection as usize,
+        ),
+        b'Q' => (NominalKind::Protocol, Name::Equatable as usize),
+        b'T' => (NominalKind::Protocol, Name::Sequence as usize),
+        b't' => (NominalKind::Protocol, Name::IteratorProtocol as usize),
+        b'U' => (NominalKind::Protocol, Name::UnsignedInteger as usize),
+        b'X' => (NominalKind::Protocol, Name::RangeExpression as usize),
+        b'x' => (NominalKind::Protocol, Name::Strideable as usize),
+        b'Y' => (NominalKind::Protocol, Name::RawRepresentable as usize),
+        b'y' => (NominalKind::Protocol, Name::StringProtocol as usize),
+        b'Z' => (NominalKind::Protocol, Name::SignedInteger as usize),
+        b'z' => (NominalKind::Protocol, Name::BinaryInteger as usize),
         _ => return None,
     })
 }
@@ -82,8 +91,8 @@ fn repeated(text: &mut Reader, repeat: usize) -> Result<Operator, Refusal>
     }
     match text.next()? {
         b'g' => Ok(Operator::Optional(repeat)),
-        b'o' => Ok(Operator::Standard(repeat, Leaf::Module(names::IMPORTED_C))),
-        b'C' => Ok(Operator::Standard(repeat, Leaf::Module(names::SYNTHESIZED_C))),
+        b'o' => Ok(Operator::Standard(repeat, Leaf::Module(Name::C as usize))),
+        b'C' => Ok(Operator::Standard(repeat, Leaf::Module(Name::CSynthesized as usize))),
         b => {
             let (kind, name) = standard_type(b).ok_or(Refusal::Spelling)?;
             Ok(Operator::Standard(repeat, Leaf::StandardNominal(kind, name)))

@@ -15,7 +15,10 @@ use text_cursor::Reader;
 const PAST_LETTERS: usize = 26;
 
 // An item after `A`: copies of a remembered node.
-#[derive(Clone, Copy, Debug)]
+//
+// Kept: a flag beside two numbers, since each item has all three: it is performed, and then the flag
+// says whether another follows.
+#[derive(Clone, Copy)]
 pub struct Copies {
     pub times: usize,
     pub index: usize,

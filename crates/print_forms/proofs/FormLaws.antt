@@ -6,7 +6,9 @@ use mathlib.Core.List.{List}
 use Prim.Native.Nat.{ℕ, zero, suc, ◌+◌, ◌≤◌, ◌<◌}
 use Prim.Native.String.{String}
 use native.Mathlib.Omega.{arith}
-use borrow.Author.Tests.{eq-eqb, ne_eqb, lt-ltb, le-ltb, lt-leb, le-leb}
+use borrow.Author.Tests.{eq-eqb, ne_eqb, lt-ltb, le-ltb}
+use Rattle.std.proofs.lemmas.Bool.{leb-true}
+use mathlib.Core.Bool.{and-eq-true_iff}
 use lib.Dec.{T, eqb, ltb, leb, T_not, eqb_refl}
 use Rattle.definition.specs.Base.{Name, bytes, same}
 use Rattle.definition.specs.Kind as K
@@ -48,11 +50,10 @@ pub child_holds : (ws : List ℕ) (p k : ℕ) (R : ℕ → Type 0) → Child (at
 child_holds ws p k R c = subst R (sym c.is) c.holds
 
 -- STANDARD TYPES
-not_nominal_low : (k : ℕ) → k < 2 → T (not (is_nominal k))
-not_nominal_low k h = rw (lt-leb 2 k h) tt
-
-not_nominal_high : (k : ℕ) → 6 < k → T (not (is_nominal k))
-not_nominal_high k h = let a : leb 2 k ≡ true = le-leb 2 k (omega arith) in rw (a, lt-leb k 6 h) tt
+pub nominal_range : (k : ℕ) → is_nominal k ≡ true → (2 ≤ k) × (k ≤ 6)
+nominal_range k h =
+    let b = (and-eq-true_iff (leb 2 k) (leb k 6)).0 h in
+    (leb-true 2 k b.0, leb-true k 6 b.1)
 
 -- the nominal type at p
 record NominalAt (nm : Names) (ws : List ℕ) (p : ℕ) (b : Node) : Type 0 where
@@ -92,11 +93,8 @@ record_small (suc (suc (suc (suc m)))) = subst (λ (j : ℕ). j < 46) (record_la
 
 module _ (nm : Names) (ws : List ℕ) (p : ℕ) where
   module _ {name : Name} where
-    pub standard_low : {k : ℕ} → k ≡ at ws p 0 → k < 2 → Standard nm ws p name false
-    standard_low {k} e h = record { each = λ b s l q. sym (standard_of_other b (not_nominal_low (kind b) (omega (arith, e, l.kind_is))) s) }
-
-    pub standard_high : {k : ℕ} → k ≡ at ws p 0 → 6 < k → Standard nm ws p name false
-    standard_high {k} e h = record { each = λ b s l q. sym (standard_of_other b (not_nominal_high (kind b) (omega (arith, e, l.kind_is))) s) }
+    pub standard_other : {k : ℕ} → k ≡ at ws p 0 → is_nominal k ≡ false → Standard nm ws p name false
+    standard_other {k} e h = record { each = λ b s l q. sym (standard_of_other b (subst (λ (j : ℕ). T (not (is_nominal j))) (e ∙ l.kind_is) (subst (λ (x : Bool). T (not x)) (sym h) tt)) s) }
 
   nominal_at : (b : Node) → Lies (Named nm) b ws p → 2 ≤ at ws p 0 → at ws p 0 ≤ 6 → NominalAt nm ws p b
   nominal_at b l lo hi =
@@ -116,9 +114,9 @@ module _ (nm : Names) (ws : List ℕ) (p : ℕ) where
   standard_nominal : {b : Node} (m : NominalAt nm ws p b) (s : String) → standard b s ≡ (same m.own (bytes s) && (eqb (kind m.context) K.module_kind && same (print m.context) (bytes "Swift")))
   standard_nominal m s = ap (λ (x : Node). standard x s) m.is ∙ standard_by_kind m.nominal m.context m.own s m.may
 
-  module _ {k : ℕ} (ek : k ≡ at ws p 0) (lo : 2 ≤ k) (hi : k ≤ 6) where
+  module _ {k : ℕ} (ek : k ≡ at ws p 0) (of : is_nominal k ≡ true) where
     found : (b : Node) → Lies (Named nm) b ws p → NominalAt nm ws p b
-    found b l = nominal_at b l (omega (arith, ek)) (omega (arith, ek))
+    found b l = let r = nominal_range k of in nominal_at b l (omega (arith, ek, r.0)) (omega (arith, ek, r.1))
 
     pub own_some : {n : ℕ} → Some (Prints nm ws p) → n ≡ at ws p 3 → Some (Named nm n)
     own_some s e = let m = found s.is.tree s.is.lies in record { text = m.own; is = subst (λ (j : ℕ). Named nm j m.own) (sym e) m.named }

@@ -1,5 +1,5 @@
 -- The form of a record, and its row of pieces. Assumes nothing.
-use Rattle.std.specs.Prelude.{◌≡◌, Bool, not, List, ℕ, ◌<◌, T}
+use Rattle.std.specs.Prelude.{◌≡◌, Bool, not, List, ℕ, ◌<◌, T, Option, Some, None}
 use Prim.Native.String.{String}
 use Rattle.definition.specs.Base.{Name, bytes}
 use Rattle.definition.specs.Node.{Node, Nodes, BoundGeneric, many}
@@ -7,12 +7,21 @@ use Rattle.definition.proofs.PrintEquations.{standard, sugared}
 use Rattle.tree_records.specs.Lies.{at, Lies}
 use Rattle.tree_records.specs.Holds.{Names, Named}
 use Rattle.print_labels.specs.RowTexts.{Prints, Pieces, form_of}
+use Rattle.print_forms.specs.declared.Sugar.{Sugar}
+use Rattle.print_forms.specs.declared.Sugar.TheVariants.{Optional, Array, Dictionary}
 
 -- whether the base at p is the standard type of a name
 pub record Standard (nm : Names) (ws : List ℕ) (p : ℕ) (name : Name) (r : Bool) : Type 0 where
   pub each : (b : Node) (s : String) → Lies (Named nm) b ws p → bytes s ≡ name → r ≡ standard b s
 
--- the sugar of a generic type: 0 none, 1 Optional, 2 Array, 3 Dictionary
+-- the numbers of the sugar: 0 none, 1 Optional, 2 Array, 3 Dictionary
+abbrev pub sugar_number : Option Sugar → ℕ
+sugar_number None = 0
+sugar_number (Some Optional) = 1
+sugar_number (Some Array) = 2
+sugar_number (Some Dictionary) = 3
+
+-- the sugar of a generic type
 pub record SugarIs (b : Node) (args : Nodes) (r : ℕ) : Type 0 where
   pub few : r < 4
   pub no_sugar : r ≡ 0 → T (not (sugared b args))

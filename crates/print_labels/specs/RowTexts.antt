@@ -1,6 +1,6 @@
 -- The text of a record as a row of pieces, and what the functions of this crate say. Assumes
 -- nothing.
-use Rattle.std.specs.Prelude.{◌≡◌, Bool, true, false, ◌&&◌, List, [], ◌∷◌, ◌++◌, ℕ, ◌+◌, ◌-◌, ◌*◌, ◌/◌, ◌%◌, ◌^◌, ◌≤◌, ◌<◌, eqb, ltb, length, get_or, if◌then◌else◌}
+use Rattle.std.specs.Prelude.{◌≡◌, Bool, true, false, ◌&&◌, List, [], ◌∷◌, ◌++◌, ℕ, ◌+◌, ◌-◌, ◌*◌, ◌/◌, ◌%◌, ◌≤◌, ◌<◌, eqb, ltb, length, get_or, if◌then◌else◌}
 use Rattle.std.proofs.Math.Option.{Option, some, none}
 use Rattle.definition.specs.Base.{Name, bytes, given}
 use Rattle.definition.specs.Kind as K
@@ -11,15 +11,9 @@ use Rattle.definition.specs.Print.{Printed, Element, labelled, effects, join, ge
 use Rattle.tree_records.specs.Lies.{at, Child, LabelIs, LabelCells, Cells, Lies, absent}
 use Rattle.tree_records.specs.Holds.{Names, Named}
 use Rattle.print_names.specs.Texts.{text_of, sep_before}
-use Rattle.print_names.specs.Naming.{Known}
-use Rattle.print_names.specs.declared.Source.{Source}
+pub use Rattle.print_names.specs.Texts.{wide_at}
 use Rattle.print_names.proofs.Lists.{left}
 use Rattle.print_labels.specs.declared.Labels.{Labels}
-
--- what is needed to read at place p: the names are known, and the record is inside the workspace
-pub record World (s : Source) (p : ℕ) : Type 0 where
-  pub known : Known s
-  pub long : 8 * p + 8 ≤ length s.ws.now
 
 -- LABELS
 -- the record that holds the first of the labels is inside the workspace
@@ -148,10 +142,6 @@ pub record Celled (nm : Names) (ws : List ℕ) (cell i sep : ℕ) (shown : Bool)
   pub is : s ≡ sep_before i sep ++ labelled (label_now labels (own shown label)) (print node)
 
 -- PIECES
--- a number of 64 bits in fields k and k + 1
-abbrev pub wide_at : List ℕ → ℕ → ℕ → ℕ
-wide_at ws p k = at ws p k + 2 ^ 32 * at ws p (k + 1)
-
 -- codes 24 to 31: what depends only on the numbers of the record
 abbrev pub init_name : List ℕ → ℕ → Name
 init_name ws p = if eqb (at ws p 3) 1 && eqb (at ws (at ws p 4) 0) K.class then text_of 29 else text_of 30

@@ -18,7 +18,7 @@ use Rattle.definition.proofs.SameText.{both}
 use Rattle.operator_names.specs.Fixed.{fixed_names, fixed}
 use Rattle.text_output.specs.Appends.{Appended, appended_is}
 use Rattle.text_output.specs.declared.Sink.{Sink}
-use Rattle.print_names.specs.declared.Source.{Source}
+use Rattle.print_names.specs.declared.source.Source.{Source}
 use Rattle.text_spelling.specs.Spelled.{Spells, Spelled}
 use Rattle.tree_records.specs.Holds.{Named, spelled, fixed as is-fixed}
 use Rattle.tree_records.specs.NamesOf.{naming}
@@ -46,18 +46,6 @@ module _ (text : Text) (w : Words) {k : ℕ} {n : Name} where
   pub named_fixed : 65536 ≤ k → Named (naming text w) k n → bytes (fixed (k - 65536)) ≡ n
   named_fixed h (spelled words r u l e b q) = absurd (omega arith)
   named_fixed h (is-fixed l m e) = e
-
-  -- no identifier begins at the end of the text
-  pub offset_in : k < 65536 → Named (naming text w) k n → k ≤ length text
-  offset_in h a = by_test (ltb (length text) k) refl
-    where
-      by_test : (b : Bool) → ltb (length text) k ≡ b → k ≤ length text
-      by_test false e = ltb-false (length text) k e
-      by_test true e =
-          let s = named_spells h a in
-          let l : length text < k = ltb-true (length text) k e in
-          let d : drop k text ≡ [] = drop_past k text (omega arith) in
-          absurd (nothing_there s.words s.read s.rest (ap (W.identifier s.words) (sym d) ∙ s.is))
 
 module _ (s : Source) {k : ℕ} {o o' : Sink} where
   pub puts_spelled : k < 65536 → Spelled s.text.now s.words.now k o o' → Puts (Named (naming_of s) k) o o'

@@ -1,22 +1,16 @@
 -- What the number of a name represents, and what the functions that append say. Assumes nothing.
-use Rattle.std.specs.Prelude.{◌≡◌, ℕ, ◌≤◌, eqb, length}
+use Rattle.std.specs.Prelude.{◌≡◌, ℕ, eqb, length}
 use Rattle.definition.specs.Base.{Name, bytes, same}
-use Rattle.text_words.specs.Table.{Fitting}
 use Rattle.operator_names.specs.Fixed.{fixed}
 use Rattle.text_output.specs.Appends.{Appended}
 use Rattle.text_output.specs.declared.Sink.{Sink}
 use Rattle.tree_records.specs.Holds.{Names}
 use Rattle.tree_records.specs.NamesOf.{naming}
-use Rattle.print_names.specs.declared.Source.{Source}
+use Rattle.print_names.specs.declared.source.Source.{Source}
 
 -- what the numbers of names represent
 abbrev pub naming_of : Source → Names
 naming_of s = naming s.text.now s.words.now
-
--- the text is short enough, and the words are in it
-pub record Known (s : Source) : Type 0 where
-  pub short : length s.text.now ≤ 65535
-  pub fitting : Fitting s.text.now s.words.now
 
 -- Is holds for the texts that may be meant. Whichever it is, that text is appended to the sink
 pub record Puts (Is : Name → Type 0) (o o' : Sink) : Type 0 where

@@ -9,41 +9,44 @@ ghost use Rattle.definition.specs.Print.{effects, join, param_names};
 ghost use Rattle.operator_names.specs.Fixed.{fixed};
 ghost use Rattle.text_output.specs.Appends.{Appended};
 ghost use Rattle.tree_records.specs.Holds.{Named};
-ghost use Rattle.print_names.specs.Texts.{text_of, sep_before};
-ghost use Rattle.print_names.specs.Naming.{Alone, Known, Puts, Some, naming_of};
+ghost use Rattle.print_names.specs.Texts.{text_of, number_of, sep_before};
+ghost use Rattle.print_names.specs.Naming.{Alone, Puts, Some, naming_of};
+
+// Where the numbers of a record are.
+pub mod fields;
+// What is printed from, and its records.
+pub mod source;
 
 use operator_names::{NAMES, Text, fixed_name};
 use print_numerals::{generic_param_name, put_decimal};
+pub use source::Source;
 use text_output::Sink;
 use text_spelling::{name_is, put_name};
-use text_words::Words;
-
-// What is printed: trees as records, the text that has their names, and its words.
-#[derive(Clone, Copy)]
-pub struct Source<'a> {
-    pub text: &'a [u8],
-    pub words: &'a Words,
-    pub ws: &'a [u32],
-}
 
 // The numbers from this one on represent fixed names; those below are offsets of the text.
 const FIXED: usize = 65536;
 
-// Appends the text with number n.
-pub fn put_text(out: &mut Sink, n: usize)
+// Appends a fixed text.
+pub fn put_text(out: &mut Sink, text: Text)
+    ensures { Appended out.old out.new (text_of (number_of text)) }
+{
+    put_numbered(out, text as usize);
+}
+
+// Appends the fixed text with number n.
+pub fn put_numbered(out: &mut Sink, n: usize)
     requires { n < 37 }
     ensures { Appended out.old out.new (text_of n) }
 {
     out.put(fixed_name(NAMES + n));
 }
 
-// Appends the text with number n before each element except the first.
-pub fn put_sep(out: &mut Sink, i: usize, n: usize)
-    requires { n < 37 }
-    ensures { Appended out.old out.new (sep_before i n) }
+// Appends a text before each element except the first.
+pub fn put_sep(out: &mut Sink, i: usize, text: Text)
+    ensures { Appended out.old out.new (sep_before i (number_of text)) }
 {
     if i != 0 {
-        put_text(out, n);
+        put_text(out, text);
     }
 }
 
@@ -56,7 +59,7 @@ pub fn put_param_names(out: &mut Sink, count: usize)
         if out.is_past() {
             return;
         }
-        put_sep(out, i, Text::Comma as usize);
+        put_sep(out, i, Text::Comma);
         generic_param_name(out, 0, i);
     }
 }
@@ -66,10 +69,10 @@ pub fn put_effects(out: &mut Sink, throws: bool, asynchronous: bool)
     ensures { Appended out.old out.new (effects throws asynchronous) }
 {
     if asynchronous {
-        put_text(out, Text::Async as usize);
+        put_text(out, Text::Async);
     }
     if throws {
-        put_text(out, Text::Throws as usize);
+        put_text(out, Text::Throws);
     }
 }
 
@@ -77,9 +80,9 @@ pub fn put_effects(out: &mut Sink, throws: bool, asynchronous: bool)
 pub fn put_suspend_resume(out: &mut Sink, index: usize)
     ensures { Appended out.old out.new (suspend_resume_text index) }
 {
-    put_text(out, Text::OpenParenthesis as usize);
+    put_text(out, Text::OpenParenthesis);
     put_decimal(out, index);
-    put_text(out, Text::SuspendResume as usize);
+    put_text(out, Text::SuspendResume);
 }
 
 // Appends the fixed name with number n.
@@ -94,7 +97,6 @@ pub fn put_fixed(out: &mut Sink, n: usize)
 // Appends the name that the number k represents: the identifier at that offset of the text, or,
 // from 65,536 on, a fixed name.
 pub fn put_named(out: &mut Sink, from: &Source, k: usize)
-    requires known { Known from.now }
     requires some { Some (Named (naming_of from.now) k) }
     ensures { Puts (Named (naming_of from.now) k) out.old out.new }
 {
@@ -108,7 +110,6 @@ pub fn put_named(out: &mut Sink, from: &Source, k: usize)
 // Whether the name that the number k represents is the fixed name with number n, whose bytes are
 // also given.
 pub fn named_is(from: &Source, k: usize, n: usize, fixed: &[u8]) -> bool
-    requires known { Known from.now }
     requires some { Some (Named (naming_of from.now) k) }
     requires alone { Alone n fixed.now }
     ensures { (name : Name) → Named (naming_of from.now) k name → result ≡ same name fixed.now }

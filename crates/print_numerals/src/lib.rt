@@ -28,6 +28,7 @@ pub fn put_letters(out: &mut Sink, index: usize)
     ensures { Appended out.old out.new (param_letters (index + 1) index) }
 {
     let mut n = index;
+    // Kept: 0 has a letter, too, so the end is tested after the letter; no index is counted.
     loop {
         out.put_byte(b'A' + (n % LETTERS) as u8);
         n /= LETTERS;

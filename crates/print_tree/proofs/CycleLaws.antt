@@ -4,7 +4,7 @@ use mathlib.Core.Path.{◌≡◌, refl, sym, ap, subst, ◌∙◌}
 use mathlib.Core.Bool.{Bool, true, false, ◌||◌, not}
 use mathlib.Core.List.{List, [], ◌∷◌, ◌++◌, append_assoc, append-nil}
 use mathlib.Core.Option.{Option, some, none}
-use Prim.Native.Nat.{ℕ, zero, suc, ◌+◌, ◌-◌, ◌/◌, ◌%◌, ◌^◌, ◌≤◌, ◌<◌}
+use Prim.Native.Nat.{ℕ, zero, suc, ◌+◌, ◌*◌, ◌-◌, ◌/◌, ◌%◌, ◌^◌, ◌≤◌, ◌<◌}
 use native.Mathlib.Omega.{arith}
 use borrow.Author.Tests.{ne_eqb, ltb-true, ltb-false}
 use lib.Dec.{T, eqb, ltb}
@@ -19,19 +19,19 @@ use Rattle.text_output.specs.Appends.{Appended, appended_is, appended_then, Rest
 use Rattle.text_output.specs.declared.Sink.{Sink}
 use Rattle.tree_records.specs.Lies.{at, Child, flag, LabelIs, Cells, Lies, absent}
 use Rattle.tree_records.specs.Holds.{Names, Named}
-use Rattle.print_names.specs.Texts.{text_of, sep_before}
+use Rattle.print_names.specs.Texts.{text_of, sep_before, number_of}
 use Rattle.print_names.specs.Texts as X
 use Rattle.print_names.specs.Naming.{Puts, Some}
-use Rattle.print_names.specs.declared.Source.{Source}
 use Rattle.print_names.proofs.Lists.{left, left_more, left_none}
 use Rattle.print_labels.specs.declared.Labels.{Labels}
 use Rattle.print_tree.specs.Prints.{Placed}
 use Rattle.print_tree.specs.declared.ListForm.{ListForm}
-use Rattle.print_labels.specs.RowTexts.{World, Reach, none_at, listed, LabelsIn, SomeLabels, behind_first, NextLabels, label_now, prefix, Labelling, own_label, own, Prints, Way, params_way, behind_way, signed_way, Printing, with_labels, Listed, Celled, leaf_text, list_field, list_sep, list_shown, list_count, Plain, Piece, Pieces, nothing, one, more, rows}
+use Rattle.print_labels.specs.RowTexts.{Reach, none_at, listed, LabelsIn, SomeLabels, behind_first, NextLabels, label_now, prefix, Labelling, own_label, own, Prints, Way, params_way, behind_way, signed_way, Printing, with_labels, Listed, Celled, leaf_text, list_field, list_sep, list_shown, list_count, Plain, Piece, Pieces, nothing, one, more, rows}
 use Rattle.print_forms.specs.Forms.{Rowed}
 use Rattle.print_forms.proofs.ByKind.{tuple_of, function_type_of, generic_type_of, empty_list_of}
 use Rattle.print_labels.proofs.LabelLaws.{prefixed, shown_labels}
-use Rattle.print_tree.proofs.LeafLaws.{list_of}
+use Rattle.print_tree.proofs.LeafLaws.{list_of, sep_is}
+use Rattle.print_tree.specs.Prints.{sep_text}
 use Rattle.print_forms.proofs.FormLaws.{child_below, child_holds, form_low}
 use Rattle.print_forms.proofs.RowLaws.{rowed}
 
@@ -294,14 +294,14 @@ module _ (nm : Names) (ws : List ℕ) (p : ℕ) (l : Labels) {k : ℕ} (ek : k �
       }
 
   module _ {f : ListForm} (ef : f ≡ list_of ws p 32) where
-    as_form : {s : Name} → Listed nm ws p 3 (at ws p 2) 0 4 true l s → Listed nm ws p f.field f.count 0 f.sep f.shown l s
+    as_form : {s : Name} → Listed nm ws p 3 (at ws p 2) 0 4 true l s → Listed nm ws p f.field f.count 0 (number_of f.sep) f.shown l s
     unfolding list_field list_count list_sep list_shown
-    as_form {s} h = subst (λ (g : ListForm). Listed nm ws p g.field g.count 0 g.sep g.shown l s) (sym ef) h
+    as_form {s} h = subst (λ (g : ListForm). Listed nm ws p g.field g.count 0 (number_of g.sep) g.shown l s) (sym ef) h
 
-    pub tuple_some : k ≡ 9 → Some (Printing params_way nm ws p l) → Some (Listed nm ws p f.field f.count 0 f.sep f.shown l)
+    pub tuple_some : k ≡ 9 → Some (Printing params_way nm ws p l) → Some (Listed nm ws p f.field f.count 0 (number_of f.sep) f.shown l)
     tuple_some e s = let t = tuple_at e s.is in record { text = t.inner; is = as_form t.elements_lie }
 
-    pub tuple_puts : {o o₁ o₂ o₃ : Sink} → k ≡ 9 → Appended o o₁ (text_of 6) → Puts (Listed nm ws p f.field f.count 0 f.sep f.shown l) o₁ o₂ → Appended o₂ o₃ (text_of 7) → Puts (Printing params_way nm ws p l) o o₃
+    pub tuple_puts : {o o₁ o₂ o₃ : Sink} → k ≡ 9 → Appended o o₁ (text_of 6) → Puts (Listed nm ws p f.field f.count 0 (number_of f.sep) f.shown l) o₁ o₂ → Appended o₂ o₃ (text_of 7) → Puts (Printing params_way nm ws p l) o o₃
     tuple_puts e x y z = record {
       same = z.same ∙ y.same ∙ x.same;
       room = z.room ∙ y.room ∙ x.room;
@@ -457,21 +457,23 @@ module _ (nm : Names) (ws : List ℕ) (p : ℕ) (l : Labels) {k : ℕ} (ek : k �
   }
 
 -- PIECES
-pub world_below : {s : Source} {p q : ℕ} → World s p → q < p → World s q
-world_below h l = record { known = h.known; long = omega (arith, h.long) }
+pub inside_below : {n p q : ℕ} → 8 * p + 8 ≤ n → q < p → 8 * q + 8 ≤ n
+inside_below h l = omega arith
 
 -- the child that a piece with a code of 16 to 23 is
 pub child_at : {nm : Names} {ws : List ℕ} {p code q : ℕ} → 16 ≤ code → code < 24 → q ≡ at ws p (code - 16) → Some (Plain nm ws p code) → (q < p) × Some (Prints nm ws q)
 child_at l m e s = let v = s.is.child l m in (omega (arith, v.0), record { text = s.text; is = prints_at e v.1 })
 
-pub labels_reach : {s : Source} {p n : ℕ} {l : Labels} → World s p → l ≡ record { host = p; field = 6; left = n } → Reach s.ws.now l
-labels_reach {s = s} h e = subst (Reach s.ws.now) (sym e) (record { field = omega arith; long = h.long })
+pub labels_reach : {ws : List ℕ} {p n : ℕ} {l : Labels} → 8 * p + 8 ≤ length ws → l ≡ record { host = p; field = 6; left = n } → Reach ws l
+labels_reach {ws} h e = subst (Reach ws) (sym e) (record { field = omega arith; long = h })
 
 pub printing_to : {way : Way} {nm : Names} {ws : List ℕ} {p q : ℕ} {l m : Labels} {s : Name} → q ≡ p → m ≡ l → Printing way nm ws p l s → Printing way nm ws q m s
 printing_to {way} {nm} {ws} {p} {q} {l} {m} {s} e f h = subst (λ (j : ℕ). Printing way nm ws j m s) (sym e) (subst (λ (x : Labels). Printing way nm ws p x s) (sym f) h)
 
-pub listed_to : {nm : Names} (ws : List ℕ) (p code : ℕ) {f : ListForm} {l : Labels} {s : Name} → f ≡ list_of ws p code → l ≡ none_at p → Listed nm ws p (list_field code) (list_count ws p code) 0 (list_sep code) (list_shown code) (none_at p) s → Listed nm ws p f.field f.count 0 f.sep f.shown l s
-listed_to {nm} ws p code {f} {l} {s} e g h = subst (λ (x : Labels). Listed nm ws p f.field f.count 0 f.sep f.shown x s) (sym g) (subst (λ (x : ListForm). Listed nm ws p x.field x.count 0 x.sep x.shown (none_at p) s) (sym e) h)
+pub listed_to : {nm : Names} (ws : List ℕ) (p code : ℕ) {f : ListForm} {l : Labels} {s : Name} → 32 ≤ code → code < 38 → f ≡ list_of ws p code → l ≡ none_at p → Listed nm ws p (list_field code) (list_count ws p code) 0 (list_sep code) (list_shown code) (none_at p) s → Listed nm ws p f.field f.count 0 (number_of f.sep) f.shown l s
+listed_to {nm} ws p code {f} {l} {s} lo hi e g h₀ =
+    let h : Listed nm ws p (list_field code) (list_count ws p code) 0 (number_of (sep_text code)) (list_shown code) (none_at p) s = subst (λ (j : ℕ). Listed nm ws p (list_field code) (list_count ws p code) 0 j (list_shown code) (none_at p) s) (sep_is code lo hi) h₀ in
+    subst (λ (x : Labels). Listed nm ws p f.field f.count 0 (number_of f.sep) f.shown x s) (sym g) (subst (λ (x : ListForm). Listed nm ws p x.field x.count 0 (number_of x.sep) x.shown (none_at p) s) (sym e) h)
 
 field_fits : (n : ℕ) → get_or (3 ∷ 3 ∷ 6 ∷ 6 ∷ 5 ∷ 5 ∷ []) n 0 < 8
 field_fits zero = omega arith
@@ -482,15 +484,6 @@ field_fits (suc (suc (suc (suc zero)))) = omega arith
 field_fits (suc (suc (suc (suc (suc zero))))) = omega arith
 field_fits (suc (suc (suc (suc (suc (suc n)))))) = omega arith
 
-sep_fits : (n : ℕ) → get_or (4 ∷ 5 ∷ 4 ∷ 4 ∷ 4 ∷ 2 ∷ []) n 0 < 37
-sep_fits zero = omega arith
-sep_fits (suc zero) = omega arith
-sep_fits (suc (suc zero)) = omega arith
-sep_fits (suc (suc (suc zero))) = omega arith
-sep_fits (suc (suc (suc (suc zero)))) = omega arith
-sep_fits (suc (suc (suc (suc (suc zero))))) = omega arith
-sep_fits (suc (suc (suc (suc (suc (suc n)))))) = omega arith
-
-pub list_fits : (ws : List ℕ) (p code : ℕ) {f : ListForm} → (f ≡ list_of ws p code) × (f.count < 2 ^ 32) → (f.field < 8) × (f.sep < 37) × (f.count < 2 ^ 32)
-unfolding list_field list_sep
-list_fits ws p code h = (subst (λ (g : ListForm). g.field < 8) (sym h.0) (field_fits (code - 32)), subst (λ (g : ListForm). g.sep < 37) (sym h.0) (sep_fits (code - 32)), h.1)
+pub list_fits : (ws : List ℕ) (p code : ℕ) {f : ListForm} → (f ≡ list_of ws p code) × (f.count < 2 ^ 32) → (f.field < 8) × (f.count < 2 ^ 32)
+unfolding list_field
+list_fits ws p code h = (subst (λ (g : ListForm). g.field < 8) (sym h.0) (field_fits (code - 32)), h.1)

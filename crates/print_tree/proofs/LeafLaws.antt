@@ -1,9 +1,9 @@
 -- What depends only on the numbers of a record, and the list of a code. Assumes nothing.
 use Rattle.std.specs.Prelude.{if◌then◌else◌}
-use mathlib.Core.Path.{◌≡◌, sym, ap, ◌∙◌}
+use mathlib.Core.Path.{◌≡◌, refl, sym, ap, subst, ◌∙◌}
 use mathlib.Core.Bool.{Bool, true, false, ◌&&◌}
 use mathlib.Core.List.{List}
-use Prim.Native.Nat.{ℕ, ◌≤◌, ◌<◌}
+use Prim.Native.Nat.{ℕ, zero, suc, ◌+◌, ◌-◌, ◌≤◌, ◌<◌}
 use native.Mathlib.Omega.{arith}
 use borrow.Author.Tests.{eq-eqb, ne_eqb}
 use lib.Dec.{eqb}
@@ -14,6 +14,9 @@ use Rattle.tree_records.specs.Lies.{at}
 use Rattle.print_names.specs.Texts.{text_of}
 use Rattle.print_tree.specs.declared.ListForm.{ListForm}
 use Rattle.print_labels.specs.RowTexts.{wide_at, init_name, leaf_text, list_field, list_sep, list_shown, list_count}
+use Rattle.print_names.specs.Texts.{number_of}
+use Rattle.operator_names.specs.declared.Text.TheVariants.{Ampersand, SpacedColon, Comma}
+use Rattle.print_tree.specs.Prints.{sep_text}
 
 module _ (ws : List ℕ) (p : ℕ) where
   pub effects_are : {a b : ℕ} → a ≡ at ws p 5 → b ≡ at ws p 6 → effects (eqb a 1) (eqb b 1) ≡ leaf_text ws p 24
@@ -59,32 +62,45 @@ module _ (ws : List ℕ) (p : ℕ) where
 
 -- THE LIST OF A CODE
 abbrev pub list_of : List ℕ → ℕ → ℕ → ListForm
-list_of ws p code = record { field = list_field code; count = list_count ws p code; sep = list_sep code; shown = list_shown code }
+list_of ws p code = record { field = list_field code; count = list_count ws p code; sep = sep_text code; shown = list_shown code }
 
 module _ (ws : List ℕ) (p : ℕ) {code : ℕ} where
-  pub list_32 : {n : ℕ} → code ≡ 32 → n ≡ at ws p 2 → record { field = 3; count = n; sep = 4; shown = true } ≡ list_of ws p code
-  unfolding list_field list_count list_sep list_shown
-  list_32 e f = ap (λ (j : ℕ). record { field = 3; count = j; sep = 4; shown = true }) f ∙ sym (ap (list_of ws p) e)
+  pub list_32 : {n : ℕ} → code ≡ 32 → n ≡ at ws p 2 → record { field = 3; count = n; sep = Comma; shown = true } ≡ list_of ws p code
+  unfolding list_field list_count list_shown
+  list_32 e f = ap (λ (j : ℕ). record { field = 3; count = j; sep = Comma; shown = true }) f ∙ sym (ap (list_of ws p) e)
 
-  pub list_33 : {n : ℕ} → code ≡ 33 → n ≡ at ws p 2 → record { field = 3; count = n; sep = 5; shown = false } ≡ list_of ws p code
-  unfolding list_field list_count list_sep list_shown
-  list_33 e f = ap (λ (j : ℕ). record { field = 3; count = j; sep = 5; shown = false }) f ∙ sym (ap (list_of ws p) e)
+  pub list_33 : {n : ℕ} → code ≡ 33 → n ≡ at ws p 2 → record { field = 3; count = n; sep = Ampersand; shown = false } ≡ list_of ws p code
+  unfolding list_field list_count list_shown
+  list_33 e f = ap (λ (j : ℕ). record { field = 3; count = j; sep = Ampersand; shown = false }) f ∙ sym (ap (list_of ws p) e)
 
-  pub list_34 : {n : ℕ} → code ≡ 34 → n ≡ at ws p 5 → record { field = 6; count = n; sep = 4; shown = false } ≡ list_of ws p code
-  unfolding list_field list_count list_sep list_shown
-  list_34 e f = ap (λ (j : ℕ). record { field = 6; count = j; sep = 4; shown = false }) f ∙ sym (ap (list_of ws p) e)
+  pub list_34 : {n : ℕ} → code ≡ 34 → n ≡ at ws p 5 → record { field = 6; count = n; sep = Comma; shown = false } ≡ list_of ws p code
+  unfolding list_field list_count list_shown
+  list_34 e f = ap (λ (j : ℕ). record { field = 6; count = j; sep = Comma; shown = false }) f ∙ sym (ap (list_of ws p) e)
 
-  pub list_35 : code ≡ 35 → record { field = 6; count = 1; sep = 4; shown = false } ≡ list_of ws p code
-  unfolding list_field list_count list_sep list_shown
+  pub list_35 : code ≡ 35 → record { field = 6; count = 1; sep = Comma; shown = false } ≡ list_of ws p code
+  unfolding list_field list_count list_shown
   list_35 e = sym (ap (list_of ws p) e)
 
-  pub list_36 : {n : ℕ} → code ≡ 36 → n ≡ at ws p 4 → record { field = 5; count = n; sep = 4; shown = false } ≡ list_of ws p code
-  unfolding list_field list_count list_sep list_shown
-  list_36 e f = ap (λ (j : ℕ). record { field = 5; count = j; sep = 4; shown = false }) f ∙ sym (ap (list_of ws p) e)
+  pub list_36 : {n : ℕ} → code ≡ 36 → n ≡ at ws p 4 → record { field = 5; count = n; sep = Comma; shown = false } ≡ list_of ws p code
+  unfolding list_field list_count list_shown
+  list_36 e f = ap (λ (j : ℕ). record { field = 5; count = j; sep = Comma; shown = false }) f ∙ sym (ap (list_of ws p) e)
 
-  pub list_37 : {n : ℕ} → code ≡ 37 → n ≡ at ws p 4 → record { field = 5; count = n; sep = 2; shown = false } ≡ list_of ws p code
-  unfolding list_field list_count list_sep list_shown
-  list_37 e f = ap (λ (j : ℕ). record { field = 5; count = j; sep = 2; shown = false }) f ∙ sym (ap (list_of ws p) e)
+  pub list_37 : {n : ℕ} → code ≡ 37 → n ≡ at ws p 4 → record { field = 5; count = n; sep = SpacedColon; shown = false } ≡ list_of ws p code
+  unfolding list_field list_count list_shown
+  list_37 e f = ap (λ (j : ℕ). record { field = 5; count = j; sep = SpacedColon; shown = false }) f ∙ sym (ap (list_of ws p) e)
 
-pub last_code : {code : ℕ} → 32 ≤ code → code < 38 → (code ≡ 32 → ⊥) → (code ≡ 33 → ⊥) → (code ≡ 34 → ⊥) → (code ≡ 35 → ⊥) → (code ≡ 36 → ⊥) → code ≡ 37
-last_code l h a b c d e = omega arith
+sep_at : (j : ℕ) → j < 6 → list_sep (32 + j) ≡ number_of (sep_text (32 + j))
+unfolding list_sep
+sep_at zero l = refl
+sep_at (suc zero) l = refl
+sep_at (suc (suc zero)) l = refl
+sep_at (suc (suc (suc zero))) l = refl
+sep_at (suc (suc (suc (suc zero)))) l = refl
+sep_at (suc (suc (suc (suc (suc zero))))) l = refl
+sep_at (suc (suc (suc (suc (suc (suc j)))))) l = absurd (omega arith)
+
+-- the number of the text between the elements
+pub sep_is : (code : ℕ) → 32 ≤ code → code < 38 → list_sep code ≡ number_of (sep_text code)
+sep_is code l h =
+    let e : 32 + (code - 32) ≡ code = omega arith in
+    subst (λ (j : ℕ). list_sep j ≡ number_of (sep_text j)) e (sep_at (code - 32) (omega arith))

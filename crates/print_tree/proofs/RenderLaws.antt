@@ -9,7 +9,8 @@ use lib.Seq.{take_at}
 use Rattle.definition.specs.Base.{Name, bytes}
 use Rattle.definition.specs.Text.{Text, suffix_text}
 use Rattle.text_output.specs.Appends.{Appended, appended_is, appended_then}
-use Rattle.text_output.specs.Sink.{part, Wrote, wrote_is}
+use Rattle.text_cursor.specs.Part.{part}
+use Rattle.text_output.specs.Sink.{Wrote, wrote_is}
 use Rattle.text_output.specs.declared.Sink.{Sink}
 use Rattle.tree_records.specs.Holds.{Names}
 use Rattle.print_names.specs.Texts.{text_of}

@@ -3,9 +3,6 @@
 // it.
 #![tactic(auto)]
 
-// The run over a text's body, and the answer at its end.
-pub mod body;
-
 ghost use Rattle.std.specs.Prelude.{◌≡◌, length};
 ghost use Rattle.definition.specs.Check as Check;
 ghost use Rattle.definition.specs.Enums as Enums;
@@ -13,21 +10,39 @@ ghost use Rattle.call_endings.specs.Answers.{Answers};
 ghost use Rattle.call_endings.specs.Workspace.{Scratch};
 ghost use Rattle.swift_shape.specs.Calls.{check_whole, check_stopped};
 
-use definition::Answer;
+use call_admission::admit;
+use call_endings::stacked;
+use check_ends::{single, write_stack};
+use check_entries::Entries;
+use check_run::run;
+use definition::{Accepted, Answer, Counts, Refusal};
+use machine::budget::Budget;
 use machine::runs::Final;
 
-// A symbol or a type, given by what it is: the checks before a run, then the run
+// How many numbers of workspace each node needs.
+const NEED: usize = 8;
 
-fn check(text: &[u8], what: Final, ceiling: usize, workspace: &mut [u32]) -> Answer
+// Checks the shape of a symbol or of a type.
+pub fn check(text: &[u8], what: Final, ceiling: usize, workspace: &mut [u32]) -> Answer
     ensures { (Enums.values result ≡ (check_whole what text.now ceiling (length workspace.old)).values) × Scratch 8 ceiling (Enums.values result).number workspace.old workspace.new }
 {
-    match call_admission::admit(text, what, ceiling, 8, workspace.len()) {
-        Ok(body) => crate::body::check_body(text, body.start, body.end, what, ceiling, workspace),
-        Err(x) => Answer::Refused(x.refusal, x.at),
+    let admitted = admit(text, what, ceiling, NEED, workspace.len())?;
+    let mut entries = Entries::new(workspace, ceiling);
+    if let Err(refused) = run(admitted.body, Budget::ALL_TURNS, &mut entries) {
+        return Err(admitted.in_text(refused));
     }
+    if !single(&entries, what) {
+        return Err(admitted.at_end(Refusal::Leftover));
+    }
+    Ok(Accepted {
+        counts: Counts::from(entries.state.budget),
+        length: 0,
+    })
 }
 
-fn check_stopped(
+// Checks the shape of the first k operators of a symbol or of a type, and writes the entries of the
+// stack to the front of out, three numbers each, the bottom first.
+pub fn check_stopped(
     text: &[u8],
     what: Final,
     ceiling: usize,
@@ -37,15 +52,17 @@ fn check_stopped(
 ) -> Answer
     ensures { Answers (check_stopped what text.now ceiling k (length workspace.old) (length out.old)) out.old out.new result × Scratch 8 ceiling (Enums.values result).number workspace.old workspace.new }
 {
-    match call_admission::admit(text, what, ceiling, 8, workspace.len()) {
-        Ok(body) => crate::body::check_stopped_body(
-            text, body.start, body.end, ceiling, k, workspace, out,
-        ),
-        Err(x) => Answer::Refused(x.refusal, x.at),
+    let admitted = admit(text, what, ceiling, NEED, workspace.len())?;
+    let mut entries = Entries::new(workspace, ceiling);
+    if let Err(refused) = run(admitted.body, k, &mut entries) {
+        return Err(admitted.in_text(refused));
     }
+    let written = write_stack(&entries, out);
+    stacked(entries.state.budget, written)
 }
 
-// The calls
+// Kept: the four functions below are the Rust module's own, with its names and its parameters. Each
+// is one call of one of the two above, which users may call in their place.
 
 // Checks the shape of a symbol.
 #[tactic(auto, unfolding(definition::specs::Check::shape))]
@@ -63,7 +80,7 @@ pub fn shape_type(text: &[u8], ceiling: usize, workspace: &mut [u32]) -> Answer
     check(text, Final::Type, ceiling, workspace)
 }
 
-// Checks the shape of the first k operators of a symbol, and writes the entries of the stack.
+// Checks the shape of the first k operators of a symbol.
 #[tactic(auto, unfolding(definition::specs::Check::shape_stopped))]
 pub fn shape_stopped(
     text: &[u8],
@@ -77,7 +94,7 @@ pub fn shape_stopped(
     check_stopped(text, Final::Symbol, ceiling, k, workspace, out)
 }
 
-// The same for a type.
+// Checks the shape of the first k operators of a type.
 #[tactic(auto, unfolding(definition::specs::Check::shape_type_stopped))]
 pub fn shape_type_stopped(
     text: &[u8],

@@ -43,11 +43,11 @@ pub few_left : (text : List ℕ) (at : ℕ) → length (take (length text - at) 
 few_left text at e = let t : length (drop at text) ≤ length text - at = omega (arith, length-drop at text) in omega (arith, rw (take_all _ _ t, length-drop) at e)
 
 -- P holds for each byte up to `at`, and for the eight from a place no later than that
-pub eight_more : (P : ℕ → Type 0) (text eight : List ℕ) (from at start : ℕ) → ((i : ℕ) → from ≤ i → i < at → P (get_or text i 0)) → eight ≡ take 8 (take (length text - start) (drop start text)) → start ≤ at → start + 8 ≤ length text → ((i : ℕ) → i < 8 → P (get_or eight i 0)) → (i : ℕ) → from ≤ i → i < start + 8 → P (get_or text i 0)
-eight_more P text eight from at start before is order inside found i l r = by (ltb i at) refl
+pub eight_more : (P : ℕ → Type 0) (text eight : List ℕ) (at start : ℕ) → ((i : ℕ) → i < at → P (get_or text i 0)) → eight ≡ take 8 (take (length text - start) (drop start text)) → start ≤ at → start + 8 ≤ length text → ((i : ℕ) → i < 8 → P (get_or eight i 0)) → (i : ℕ) → i < start + 8 → P (get_or text i 0)
+eight_more P text eight at start before is order inside found i r = by (ltb i at) refl
   where
     by : (t : Bool) → ltb i at ≡ t → P (get_or text i 0)
-    by true e = before i l (ltb-true i at e)
+    by true e = before i (ltb-true i at e)
     by false e =
         let at≤ : at ≤ i = ltb-false i at e in
         let k : i - start < 8 = omega arith in
@@ -57,10 +57,10 @@ eight_more P text eight from at start before is order inside found i l r = by (l
         rw (is, get_or-take 8 (take (length text - start) (drop start text)) (i - start) 0 k, get_or-take (length text - start) (drop start text) (i - start) 0 n, get_or-drop start text (i - start) 0, j) at here
 
 -- P holds for each byte up to `at`, and for the last eight, with fewer than eight after `at`
-pub eight_last : (P : ℕ → Type 0) (text eight : List ℕ) (from at : ℕ) → ((i : ℕ) → from ≤ i → i < at → P (get_or text i 0)) → eight ≡ drop (length text - 8) text → 8 ≤ length text → length text < at + 8 → ((i : ℕ) → i < 8 → P (get_or eight i 0)) → (i : ℕ) → from ≤ i → i < length text → P (get_or text i 0)
-eight_last P text eight from at before is enough few found i l r =
+pub eight_last : (P : ℕ → Type 0) (text eight : List ℕ) (at : ℕ) → ((i : ℕ) → i < at → P (get_or text i 0)) → eight ≡ drop (length text - 8) text → 8 ≤ length text → length text < at + 8 → ((i : ℕ) → i < 8 → P (get_or eight i 0)) → (i : ℕ) → i < length text → P (get_or text i 0)
+eight_last P text eight at before is enough few found i r =
     let start : ℕ = length text - 8 in
     let n : length (drop start text) ≤ length text - start = omega (arith, length-drop start text) in
     let m : length (drop start text) ≤ 8 = omega (arith, length-drop start text) in
     let k : start ≤ at = omega arith in
-    eight_more P text eight from at start before (rw (take_all _ _ n, take_all _ _ m) is) k (omega arith) found i l (omega arith)
+    eight_more P text eight at start before (rw (take_all _ _ n, take_all _ _ m) is) k (omega arith) found i (omega arith)

@@ -1,3 +1,3 @@
-pub mod Cursor
 pub mod Each
+pub mod Part
 pub mod Reads

@@ -1,6 +1,7 @@
 -- What the result of a method of `Reader` says about a step of the definition (01, "Text and
 -- cursor"). Assumes nothing.
-use Rattle.std.specs.Prelude.{◌≡◌, Bool, true, false, ℕ, ◌+◌, ◌≤◌, ◌<◌, [], ◌∷◌, length, drop, Result, MatchResult, Option, Some, None}
+use denote.Bor.{Bor}
+use Rattle.std.specs.Prelude.{◌≡◌, Bool, true, false, ℕ, ◌+◌, ◌≤◌, ◌<◌, List, [], ◌∷◌, length, take, drop, Result, MatchResult, Option, Some, None}
 use Rattle.definition.specs.Base.{digit, Out, ok, refused}
 use Rattle.definition.specs.Text.{Text, Lex, peek}
 use Rattle.definition.specs.Text as Text
@@ -89,3 +90,18 @@ pub record LeftDigit (old new : Reader) : Type 0 where
 abbrev pub TakesDigit : Reader → Reader → Option ℕ → Type 0
 TakesDigit old new (Some d) = TookDigit d old new
 TakesDigit old new None = LeftDigit old new
+
+-- the next n bytes were taken, which are the slice b; or the text has fewer
+pub record TookPart (n : ℕ) (b : Text) (old new : Reader) : Type 0 where
+  pub is : b ≡ take n (rest old)
+  pub text : new.text ≡ old.text
+  pub inside : new.at ≤ length new.text.now
+  pub onward : new.at ≡ old.at + n
+
+pub record Short (n : ℕ) (old new : Reader) : Type 0 where
+  pub few : length old.text.now < old.at + n
+  pub same : new ≡ old
+
+abbrev pub TakesPart : ℕ → Reader → Reader → Option (Bor (List ℕ)) → Type 0
+TakesPart n old new (Some b) = TookPart n b.now old new
+TakesPart n old new None = Short n old new

@@ -2,7 +2,7 @@
 use mathlib.Core.Path.{◌≡◌, refl, sym, ap, ◌∙◌, subst}
 use mathlib.Core.Bool.{Bool, true, false, not}
 use mathlib.Core.List.{List, [], ◌∷◌, ◌++◌}
-use Prim.Native.Nat.{ℕ, zero, suc, ◌+◌, ◌≤◌, ◌<◌}
+use Prim.Native.Nat.{ℕ, zero, suc, ◌+◌, ◌-◌, ◌≤◌, ◌<◌}
 use native.Mathlib.Omega.{arith}
 use lib.ListN.{length, drop, length-drop}
 use lib.Seq.{length-take-le}
@@ -56,7 +56,7 @@ module _ {S : Type 0} (count : S → ℕ) (note : Text → S → S) (words : S) 
   unfolding identifier_of
   first_zero e k = rw (e, k)
 
-pub fuel_enough : {old mid : Reader} → mid.text ≡ old.text → old.at ≤ mid.at → length mid.text.now < mid.at + suc (length (rest old))
+pub fuel_enough : {old mid : Reader} → mid.text ≡ old.text → old.at ≤ mid.at → length mid.text.now - mid.at < suc (length (rest old))
 fuel_enough {old} {mid} t h = rw (t, length-drop old.at old.text.now) (omega arith)
 
 -- what is found from `mid` on was found from `old` on

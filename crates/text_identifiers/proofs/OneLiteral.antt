@@ -2,7 +2,7 @@
 use mathlib.Core.Path.{◌≡◌, refl, sym, ap, subst, ◌∙◌}
 use mathlib.Core.Bool.{true, false}
 use mathlib.Core.List.{List, [], ◌∷◌}
-use Prim.Native.Nat.{ℕ, ◌+◌, ◌≤◌, ◌<◌}
+use Prim.Native.Nat.{ℕ, ◌+◌, ◌-◌, ◌<◌}
 use native.Mathlib.Omega.{arith}
 use lib.ListN.{length, get_or, drop}
 use Rattle.definition.specs.Base.{Name, is, ok, refused, and_then}
@@ -29,34 +29,34 @@ no_zero {old} {new} h =
     let q : rest new ≡ rest old = rw (h.text, h.here) in
     record { is = ap (next_if (is "0")) q ∙ h.is }
 
-module _ {S : Type 0} (count : S → ℕ) (note : Text → S → S) (text : Text) (words : S) (at : ℕ) (i : at ≤ length text) (z : NoZero text at) (f : ℕ) (h : length text < at + f) where
+module _ {S : Type 0} (count : S → ℕ) (note : Text → S → S) (text : Text) (words : S) (at : ℕ) (z : NoZero text at) (f : ℕ) (h : length text - at < f) where
   first : (known : ℕ) → round known false false true (drop at text) ≡ and_then (literal false (drop at text)) (λ s v. ok (takes true false s) v)
   first known = closing_takes (drop at text) false true false z.is
 
   pub plain_read : {a b : ℕ} {words' : S} → Lies (literal false (drop at text)) (λ s. s) text at a b → words' ≡ note (part text a b) words →
       Reaches (named count note f false false words true (drop at text)) (got false words') text (at + 1) b
   plain_read {a} {b} l w =
-      running_last count note false text (running_first count note false text words false at i) refl f h refl
+      running_last count note false text (running_first count note false text words false at) refl f h refl
       (record { is = first (count words) ∙ ap (λ o. and_then o (λ s v. ok (takes true false s) v)) l.is; onward = l.onward; some = l.some; inside = l.inside }) w
 
   pub plain_refused : {n : ℕ} → literal false (drop at text) ≡ refused n → named count note f false false words true (drop at text) ≡ refused n
   plain_refused e =
-      running_refused count note false text (running_first count note false text words false at i) refl f h
+      running_refused count note false text (running_first count note false text words false at) refl f h
       (first (count words) ∙ ap (λ o. and_then o (λ s v. ok (takes true false s) v)) e)
 
 -- over a reader, and what is known of the words
-module _ {S : Type 0} (stands : S → List Name → Type 0) (old new : Reader) (i : old.at ≤ length old.text.now) (z : NoZero old.text.now old.at) (f : ℕ) (h : length old.text.now < old.at + f) (words : List Name) {known : S} (met : stands known words) where
+module _ {S : Type 0} (stands : S → List Name → Type 0) (old new : Reader) (z : NoZero old.text.now old.at) (f : ℕ) (h : length old.text.now - old.at < f) (words : List Name) {known : S} (met : stands known words) where
   pub plain_found : {known' : S} {e : Extent} → Taken (literal false (rest old)) (λ s. s) old new e →
       ((ws : List Name) → stands known ws → stands known' (W.note_words (part old.text.now e.from e.to) ws)) → Found (stands known') (named length W.note_words f false false words true (rest old)) old new
   plain_found {known'} {e} t a = record {
     words = W.note_words (part old.text.now e.from e.to) words;
     met = a words met;
     is = standing t.text (subst (λ (k : ℕ). Reaches (named length W.note_words f false false words true (rest old)) (got false (W.note_words (part old.text.now e.from e.to) words)) old.text.now (old.at + 1) k) (sym t.here)
-        (plain_read length W.note_words old.text.now words old.at i z f h t.lies refl));
+        (plain_read length W.note_words old.text.now words old.at z f h t.lies refl));
   }
 
   pub plain_missed : {x : Refusal} → literal false (rest old) ≡ refused (number x) → Missed (stands known) (named length W.note_words f false false words true (rest old)) x
-  plain_missed e = record { words = words; met = met; is = plain_refused length W.note_words old.text.now words old.at i z f h e }
+  plain_missed e = record { words = words; met = met; is = plain_refused length W.note_words old.text.now words old.at z f h e }
 
 -- THE NAME
 some_name : (name : Name) → 0 < length name → is_empty name ≡ false

@@ -48,10 +48,10 @@ module _ {S : Type 0} (count : S → ℕ) (note : Text → S → S) (punycoded :
     -- the outcome `out` is that of the rounds from here on, with enough fuel
     pub record Going (out : Out Text (Got S)) (words : S) (subs empty : Bool) (at : ℕ) : Type 0 where
       pub fuel : ℕ
-      pub enough : length text < at + fuel
+      pub enough : length text - at < fuel
       pub same : out ≡ named count note fuel subs punycoded words empty (drop at text)
 
-    module _ {out : Out Text (Got S)} {words : S} {subs empty : Bool} {at : ℕ} (g : Going out words subs empty at) (i : at ≤ length text) {known : ℕ} (k : known ≡ count words) where
+    module _ {out : Out Text (Got S)} {words : S} {subs empty : Bool} {at : ℕ} (g : Going out words subs empty at) {known : ℕ} (k : known ≡ count words) where
       opened : {o : Out Text Round} → round known subs punycoded empty (drop at text) ≡ o →
           out ≡ and_then (and_then o (after count note punycoded words (rounds count note (g.fuel - 1) true punycoded))) finish
       opened e =
@@ -87,46 +87,44 @@ module _ {S : Type 0} (count : S → ℕ) (note : Text → S → S) (punycoded :
 
     -- THE LOOP: the rounds before `at` have been made
     pub record Running (first : S) (subs : Bool) (from at : ℕ) (words : S) (more empty : Bool) : Type 0 where
-      pub inside : at ≤ length text
       pub onward : from ≤ at
-      pub same : (f : ℕ) → length text < from + f → Going (named count note f subs punycoded first true (drop from text)) words more empty at
+      pub same : (f : ℕ) → length text - from < f → Going (named count note f subs punycoded first true (drop from text)) words more empty at
 
-    pub running_first : (first : S) (subs : Bool) (from : ℕ) → from ≤ length text → Running first subs from from first subs true
-    running_first first subs from h = record { inside = h; onward = omega arith; same = λ f e. record { fuel = f; enough = e; same = refl } }
+    pub running_first : (first : S) (subs : Bool) (from : ℕ) → Running first subs from from first subs true
+    running_first first subs from = record { onward = omega arith; same = λ f e. record { fuel = f; enough = e; same = refl } }
 
     module _ {first : S} {subs : Bool} {from at : ℕ} {words : S} {more empty : Bool} (g : Running first subs from at words more empty) {known : ℕ} (k : known ≡ count words) where
       -- a literal after which letters may follow
       pub running_next : {e m : Bool} {a b : ℕ} {words' : S} → m ≡ true → Lies (round known more punycoded empty (drop at text)) (takes e m) text at a b →
           words' ≡ known_after note punycoded (part text a b) words → Running first subs from b words' true false
       running_next {a = a} {b = b} z l w = record {
-        inside = l.inside;
         onward = omega (arith, g.onward, l.onward, l.some);
         same = λ f h.
             let r = g.same f h in
             record {
               fuel = r.fuel - 1;
-              enough = omega (arith, r.enough, l.onward, l.some, g.inside);
-              same = going_on r g.inside k (long text a b l.some l.inside) w z l.is;
+              enough = omega (arith, r.enough, l.onward, l.some, l.inside);
+              same = going_on r k (long text a b l.some l.inside) w z l.is;
             };
       }
 
       -- the last round
-      module _ (f : ℕ) (h : length text < from + f) where
+      module _ (f : ℕ) (h : length text - from < f) where
         pub running_refused : {n : ℕ} → round known more punycoded empty (drop at text) ≡ refused n → named count note f subs punycoded first true (drop from text) ≡ refused n
-        running_refused e = going_refused (g.same f h) g.inside k e
+        running_refused e = going_refused (g.same f h) k e
 
         pub running_empty : {e : Bool} {c : ℕ} → e ≡ true → Reaches (round known more punycoded empty (drop at text)) (closes e) text (at + 1) c →
             named count note f subs punycoded first true (drop from text) ≡ refused 9
-        running_empty z r = going_empty (g.same f h) g.inside k z r.is
+        running_empty z r = going_empty (g.same f h) k z r.is
 
         pub running_closed : {e : Bool} {c : ℕ} → e ≡ false → Reaches (round known more punycoded empty (drop at text)) (closes e) text (at + 1) c →
             Reaches (named count note f subs punycoded first true (drop from text)) (got false words) text (from + 1) c
-        running_closed z r = record { is = going_closed (g.same f h) g.inside k z r.is; inside = r.inside; onward = omega (arith, g.onward, r.onward) }
+        running_closed z r = record { is = going_closed (g.same f h) k z r.is; inside = r.inside; onward = omega (arith, g.onward, r.onward) }
 
         pub running_last : {e m : Bool} {a b : ℕ} {words' : S} → m ≡ false → Lies (round known more punycoded empty (drop at text)) (takes e m) text at a b →
             words' ≡ known_after note punycoded (part text a b) words → Reaches (named count note f subs punycoded first true (drop from text)) (got false words') text (from + 1) b
         running_last {a = a} {b = b} z l w = record {
-          is = going_last (g.same f h) g.inside k (long text a b l.some l.inside) w z l.is;
+          is = going_last (g.same f h) k (long text a b l.some l.inside) w z l.is;
           inside = l.inside;
           onward = omega (arith, g.onward, l.onward, l.some);
         }
@@ -167,8 +165,8 @@ module _ {S : Type 0} (stands : S → List Name → Type 0) (punycoded subs : Bo
     pub met : stands known words
     pub run : Running length note_words punycoded old.text.now first subs old.at at words more empty
 
-  pub tracked_first : (known : S) → stands known first → old.at ≤ length old.text.now → Tracked known old.at subs true
-  tracked_first known h i = record { words = first; met = h; run = running_first length note_words punycoded old.text.now first subs old.at i }
+  pub tracked_first : (known : S) → stands known first → Tracked known old.at subs true
+  tracked_first known h = record { words = first; met = h; run = running_first length note_words punycoded old.text.now first subs old.at }
 
   abbrev Outcome : ℕ → Out Text (Got (List Name))
   Outcome f = named length note_words f subs punycoded first true (rest old)
@@ -189,7 +187,7 @@ module _ {S : Type 0} (stands : S → List Name → Type 0) (punycoded subs : Bo
           (running_next length note_words punycoded old.text.now g.run k z (lain Step old mid new t h) refl);
     }
 
-    module _ (f : ℕ) (fuel : length old.text.now < old.at + f) where
+    module _ (f : ℕ) (fuel : length old.text.now - old.at < f) where
       pub tracked_refused : {x : Refusal} → Step (rest mid) ≡ refused (number x) → Missed (stands known) (Outcome f) x
       tracked_refused e = record {
         words = g.words;

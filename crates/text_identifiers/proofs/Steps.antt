@@ -1,12 +1,11 @@
 -- The steps of an identifier at a place of a text: letters, literals, the closing `0`. Assumes
 -- nothing.
 use mathlib.Core.Path.{◌≡◌, refl, sym, ap, subst, ◌∙◌}
-use mathlib.Core.Bool.{Bool, true, false, ◌&&◌}
+use mathlib.Core.Bool.{Bool, true, false}
 use mathlib.Core.List.{List, [], ◌∷◌}
 use Prim.Native.Nat.{ℕ, ◌+◌, ◌-◌, ◌≤◌, ◌<◌}
 use native.Mathlib.Omega.{arith}
-use borrow.Author.Tests.{lt-ltb, le-ltb, le-leb, lt-leb, leb-true}
-use lib.Dec.{leb}
+use borrow.Author.Tests.{lt-ltb, le-ltb, le-leb, lt-leb}
 use lib.ListN.{length, drop, length-drop}
 use lib.Seq.{drop-drop}
 use Rattle.definition.specs.Base.{Name, Out, ok, refused, is, lower, upper, and_then}
@@ -18,7 +17,7 @@ use Rattle.std.specs.Prelude.{Result, Ok, Err}
 use Rattle.std.specs.Result.{IsErrAnd}
 use denote.Ref.{Bor}
 use Rattle.text_cursor.specs.declared.Reader.{Reader}
-use Rattle.text_cursor.specs.Reads.{rest, Stands, Takes}
+use Rattle.text_cursor.specs.Reads.{rest, Stands, Takes, TookPart}
 use Rattle.text_words.specs.Table.{part}
 use Rattle.text_identifiers.specs.Rounds.{Round, closes, takes, closing, whole_slice}
 use Rattle.text_identifiers.specs.Identifiers.{Lies, Taken, Extends, Pieced}
@@ -27,16 +26,6 @@ use Rattle.text_identifiers.specs.declared.Letters.{Letters}
 use Rattle.text_identifiers.specs.declared.Piece.{Piece}
 
 -- LETTERS
-and_left : (a b : Bool) → (a && b) ≡ true → a ≡ true
-and_left true b e = refl
-and_left false b e = e
-
-pub lower_low : (b : ℕ) → lower b ≡ true → 97 ≤ b
-lower_low b e = leb-true 97 b (and_left (leb 97 b) (leb b 122) e)
-
-pub upper_low : (b : ℕ) → upper b ≡ true → 65 ≤ b
-upper_low b e = leb-true 65 b (and_left (leb 65 b) (leb b 90) e)
-
 module _ (known : ℕ) (empty : Bool) where
   pub letters_none : {t : Text} → t ≡ [] → word_letters known empty t ≡ ok (spelled empty true) t
   unfolding word_letters
@@ -66,15 +55,14 @@ module _ (known : ℕ) (empty : Bool) where
 -- the loop of `word_letters`: the letters before the place are known words
 pub record Spelling (known : ℕ) (first : Bool) (old new : Reader) (empty : Bool) : Type 0 where
   pub text : new.text ≡ old.text
-  pub inside : new.at ≤ length new.text.now
   pub onward : old.at ≤ new.at
   pub same : word_letters known first (rest old) ≡ word_letters known empty (rest new)
 
 -- LITERALS
 module _ (text : Text) (at n : ℕ) where
-  pub slice_short : at ≤ length text → length text - at < n → whole_slice n (drop at text) ≡ refused 9
+  pub slice_short : 0 < n → length text < at + n → whole_slice n (drop at text) ≡ refused 9
   unfolding take_bytes
-  slice_short h k = let l : length (drop at text) < n = simp length-drop k in rw (take_bytes, lt-leb n (length (drop at text)) l)
+  slice_short h k = let l : length (drop at text) < n = omega (arith, length-drop at text) in rw (take_bytes, lt-leb n (length (drop at text)) l)
 
   module _ (h : at + n ≤ length text) where
     bytes_there : take_bytes n (drop at text) ≡ ok (part text at (at + n)) (drop (at + n) text)
@@ -89,6 +77,32 @@ module _ (text : Text) (at n : ℕ) where
 
     pub slice_ill : well_formed (part text at (at + n)) ≡ false → whole_slice n (drop at text) ≡ refused 9
     slice_ill e = rw (bytes_there, e)
+
+-- the bytes that a reader took
+module _ {n : ℕ} {bytes : Name} {old new : Reader} (t : TookPart n bytes old new) where
+  abbrev slice : Name
+  slice = part new.text.now old.at new.at
+
+  inside : old.at + n ≤ length old.text.now
+  inside = rw (← t.onward, ← t.text) t.inside
+
+  same_slice : slice ≡ part old.text.now old.at (old.at + n)
+  same_slice = rw (t.text, t.onward)
+
+  pub part_ill : well_formed slice ≡ false → whole_slice n (rest old) ≡ refused 9
+  part_ill e = slice_ill old.text.now old.at n inside (ap well_formed (sym same_slice) ∙ e)
+
+  pub part_read : 0 < n → well_formed slice ≡ true → Taken (whole_slice n (rest old)) (λ s. s) old new (record { from = old.at; to = new.at })
+  part_read h e = record {
+    lies = record {
+      is = slice_whole old.text.now old.at n inside (ap well_formed (sym same_slice) ∙ e) ∙ ap (λ (m : ℕ). ok (part old.text.now old.at m) (drop m old.text.now)) (sym t.onward);
+      onward = omega arith;
+      some = omega (arith, t.onward);
+      inside = rw t.onward inside;
+    };
+    text = t.text;
+    here = refl;
+  }
 
 module _ (t : Text) where
   pub literal_zero : (punycoded : Bool) {n : ℕ} {u : Text} → n ≡ 0 → natural t ≡ ok n u → literal punycoded t ≡ refused 9

@@ -18,6 +18,16 @@ use Rattle.text_identifiers.specs.declared.Piece.{Piece}
 abbrev pub spelled : Letters → C.Spelled
 spelled l = C.spelled l.empty l.more
 
+-- the letters were taken, if there are any
+pub record Spells (m : Lex C.Spelled) (l : Letters) (old new : Reader) : Type 0 where
+  pub is : m (rest old) ≡ ok (spelled l) (rest new)
+  pub text : new.text ≡ old.text
+  pub onward : old.at ≤ new.at
+
+abbrev pub SpelledAs : Lex C.Spelled → Reader → Reader → Result Letters Refusal → Type 0
+SpelledAs m old new (Ok l) = Spells m l old new
+SpelledAs m old new (Err f) = m (rest old) ≡ refused (number f)
+
 -- the outcome is f of the bytes from one place to another, which are one or more, and its rest is
 -- what follows them
 pub record Lies {A : Type 0} (out : Out Text A) (f : Name → A) (text : Text) (least from to : ℕ) : Type 0 where

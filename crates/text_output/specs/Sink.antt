@@ -5,7 +5,6 @@ use Rattle.std.specs.Prelude.{◌≡◌, refl, List, [], ◌∷◌, ◌++◌, �
 use Rattle.std.proofs.Common.{sym, ap, subst, ◌∙◌, append_assoc, append-nil, arith, add-one, length-append, length-take, length-set, take-append-drop, take_at, drop_at, drop-drop}
 use Rattle.std.proofs.lemmas.List.{set_split}
 use Rattle.std.proofs.Math.Seq.{append_snoc}
-pub use Rattle.text_parts.specs.Copied.{part}
 
 -- What may be appended to: `at` is the place of the next byte, or room + 1 once something did not
 -- fit. The slice is no longer than room

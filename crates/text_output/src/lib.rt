@@ -5,8 +5,6 @@
 ghost use Rattle.std.specs.Prelude.{◌≡◌, ◌+◌, ◌≤◌, ◌∷◌, [], length, ltb};
 ghost use Rattle.text_output.specs.Sink.{Room};
 
-use text_parts::{copy, copy_words};
-
 // A lent slice, the place of the next byte, and the room: how many bytes may be appended in all.
 // Once something did not fit, the place is past the room, and nothing is appended any more.
 #[derive(Drop)]
@@ -40,11 +38,7 @@ impl<'a> Sink<'a> {
         }
         let end = self.at + bytes.len();
         if end <= self.out.len() {
-            if 8 <= bytes.len() {
-                copy_words(self.out, self.at, bytes, 0, bytes.len());
-            } else {
-                copy(self.out, self.at, bytes);
-            }
+            self.out[self.at..end].copy_from_slice(bytes);
         }
         self.at = end;
     }

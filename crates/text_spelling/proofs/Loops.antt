@@ -1,29 +1,32 @@
 -- The loops over the segments of a name. Assumes nothing.
-use mathlib.Core.Path.{◌≡◌, refl, sym, ap, ◌∙◌, subst, subst⁻¹}
-use mathlib.Core.Bool.{Bool, true, false, ◌&&◌, and-eq-true_iff}
+use mathlib.Core.Path.{◌≡◌, refl, sym, ap, ◌∙◌, subst}
+use mathlib.Core.Bool.{Bool, true, false, ◌&&◌}
 use mathlib.Core.List.{List, [], ◌∷◌, ◌++◌}
-use Prim.Native.Nat.{ℕ, ◌+◌, ◌-◌, ◌*◌, ◌≤◌, ◌<◌}
-use mathlib.Core.Logic.{◌⊎◌, inl, inr}
+use Prim.Native.Nat.{ℕ, ◌+◌, ◌*◌, ◌≤◌, ◌<◌}
 use native.Mathlib.Omega.{arith}
-use native.Mathlib.Nat.{eq-or-lt_of_le}
-use borrow.Author.Tests.{eq-eqb, ne_eqb}
+use denote.Bor.{Bor}
 use lib.Dec.{eqb}
-use lib.ListN.{length, get_or, take, drop, length-append, length-drop}
-use lib.Seq.{drop-drop}
-use Rattle.definition.specs.Base.{Name, same, is, Out, ok, refused}
+use Rattle.std.proofs.Math.Dec.{eqb-suc-zero}
+use Rattle.std.specs.Prelude.{◌==◌}
+use borrow.Author.Tests.{eq-eqb, ne_eqb, eqb-false}
+use Rattle.std.proofs.lemmas.Bool.{eqb-true}
+use lib.ListN.{length, take, drop, length-append}
+use lib.Pointwise.{pointwise}
+use Rattle.definition.specs.Base.{Name, same, is}
 use Rattle.definition.specs.Text.{Text, next_if, natural, peek}
-use Rattle.text_words.specs.Table.{part, table}
-use Rattle.text_words.specs.Table.{Words}
-use Rattle.text_spelling.specs.Segments.{Segment, segment, end, counted, of_bytes, of_length, literal_segment, segment_of, lead, Follows, nothing, after}
-use Rattle.text_spelling.proofs.segments.Steps.{start_plain, literal_open, segment_plain}
+use Rattle.text_cursor.specs.Reads.{rest}
+use Rattle.text_cursor.specs.Reads as Reads
+use Rattle.text_cursor.specs.declared.Reader.{Reader}
+use Rattle.text_words.specs.Table.{Words, table, Fitting}
 use Rattle.text_output.specs.Appends.{Appended, Rest, rest_start, rest_then, rest_end, rest_past}
 use Rattle.text_output.specs.declared.Sink.{Sink}
+use Rattle.text_spelling.specs.Segments.{Segment, segment, end, segment_of, of_length, literal_segment, lead, Follows, nothing, after}
 use Rattle.text_spelling.specs.Spelled.{Spells, LengthIs, Spelled}
-use Rattle.text_spelling.specs.SegmentsRead.{Begun, Taken, SegmentIs}
-use Rattle.text_spelling.specs.declared.segments.Speller.{Speller}
-use Rattle.text_spelling.specs.declared.segments.Segment.{Segment as Answer}
-use Rattle.text_words.proofs.Parts.{part_length}
-use Rattle.text_cursor.proofs.Steps.{front, ended, differ, next_if_leaves}
+use Rattle.text_spelling.specs.SegmentsRead.{Begun, Taken, coming}
+use Rattle.text_spelling.specs.declared.segments.Segments.{Segments}
+use Rattle.text_spelling.specs.Measures.{Measured, Unmeasured}
+use Rattle.text_spelling.proofs.segments.Steps.{begun_plain, segment_plain, literal_open, part_last}
+use lib.Seq.{drop-length}
 use Rattle.text_spelling.proofs.Reading.{spelled_again}
 
 -- WHAT FOLLOWS A PIECE
@@ -40,14 +43,6 @@ parts : {words : List Name} {punycoded : Bool} {p : Segment} {n : Name} → Foll
 parts nothing = refl
 parts (after {n = n} h) = record { rest = n; is = refl; follows = h }
 
--- what the result says that a match took apart
-module _ (text : Text) (least : ℕ) (punycoded : Bool) {out : Segment} {r : Answer} where
-  pub taken_part : {from to : ℕ} {next : Speller} → r ≡ Answer.Part from to next → SegmentIs out text least punycoded r → Taken out text least punycoded from to next
-  taken_part e h = subst (SegmentIs out text least punycoded) e h
-
-  pub taken_end : r ≡ Answer.End → SegmentIs out text least punycoded r → out ≡ end
-  taken_end e h = subst (SegmentIs out text least punycoded) e h
-
 -- TWO TEXTS
 and_assoc : (a b c : Bool) → (a && (b && c)) ≡ ((a && b) && c)
 and_assoc true b c = refl
@@ -59,193 +54,167 @@ same_parts [] n f = refl
 same_parts (x ∷ a) n [] = refl
 same_parts (x ∷ a) n (y ∷ f) = ap (λ (b : Bool). eqb x y && b) (same_parts a n f) ∙ and_assoc (eqb x y) (same a (take (length a) f)) (same n (drop (length a) f))
 
-same_long : (a f : Name) → same a (take (length a) f) ≡ true → length a ≤ length f
-same_long [] f e = omega arith
-same_long (x ∷ a) [] e = absurd (differ (sym e))
-same_long (x ∷ a) (y ∷ f) e = let h : length a ≤ length f = same_long a f ((and-eq-true_iff (eqb x y) (same a (take (length a) f))).0 e).1 in omega arith
+eqb_turned : (a b : ℕ) → eqb a b ≡ eqb b a
+eqb_turned a b = go (eqb a b) refl
+  where
+    go : (d : Bool) → eqb a b ≡ d → eqb a b ≡ eqb b a
+    go true e = e ∙ sym (eq-eqb b a (sym (eqb-true a b e)))
+    go false e = e ∙ sym (ne_eqb b a (λ (k : b ≡ a). eqb-false a b e (sym k)))
 
--- A LENGTH AND ITS BYTES, WHERE NO WORD LETTERS MAY FOLLOW
--- no text is left after them
-last_bytes : {a : Name} {more : Bool} {t : Text} (o : Out Text Name) → of_bytes false o ≡ segment a more t → (more ≡ false) × (t ≡ [])
-last_bytes (ok s u) e = (cc, cc)
-last_bytes (refused r) e = let z : ◌≡◌ {A = ℕ} 0 1 = cc in absurd (omega arith)
+-- the library's tests of a text's first bytes, and of its end, are the definition's
+first_same : (t p : Name) → pointwise eqb t p ≡ same p t
+first_same [] [] = refl
+first_same (y ∷ t) [] = refl
+first_same [] (x ∷ p) = refl
+first_same (y ∷ t) (x ∷ p) = rw (eqb_turned y x) (ap (λ (d : Bool). eqb x y && d) (first_same t p))
 
-last_length : {a : Name} {more : Bool} {t : Text} (punycoded : Bool) (o : Out Text ℕ) → of_length false punycoded o ≡ segment a more t → (more ≡ false) × (t ≡ [])
-last_length punycoded (ok n u) e = last_bytes (counted punycoded n u) e
-last_length punycoded (refused r) e = let z : ◌≡◌ {A = ℕ} 0 1 = cc in absurd (omega arith)
-
--- so the name ends there
-no_text : (words : List Name) (punycoded : Bool) → segment_of words false punycoded [] ≡ end
-unfolding segment_of literal_segment next_if natural peek
-no_text words punycoded = refl
+pub empty_same : (f : Name) → (length f == 0) ≡ same [] f
+empty_same [] = refl
+empty_same (y ∷ f) = eqb-suc-zero (length f)
 
 -- A LOOP
-module _ (text : Text) (w : Words) (p : ℕ) where
-  abbrev Remains : Speller → Name → Type 0
-  Remains s n = Follows (table text w) s.punycoded (segment_of (table text w) s.more s.punycoded (drop s.at text)) n
+abbrev words_of : Segments → List Name
+words_of s = table s.text.text.now s.words.now
 
-  -- this rest of the whole name is left at the cursor, and Q holds for both
-  pub record Yet (Q : Name → Name → Type 0) (s : Speller) (name : Name) : Type 0 where
+module _ (text : Text) (w : Words) (p : ℕ) where
+  -- this rest of the whole name is left, and Q holds for both
+  pub record Yet (Q : Name → Name → Type 0) (s : Segments) (name : Name) : Type 0 where
     rest : Name
-    remains : Remains s rest
+    remains : Follows (words_of s) s.punycoded (coming s) rest
     done : Q name rest
 
   -- this is so whatever name is spelled at p
-  abbrev pub Left : (Name → Name → Type 0) → Speller → Type 0
+  abbrev pub Left : (Name → Name → Type 0) → Segments → Type 0
   Left Q s = (name : Name) → Spells text w p name → Yet Q s name
 
-  pub left_first : {s : Speller} (Q : Name → Name → Type 0) → Begun text p s → ((name : Name) → Q name name) → Left Q s
-  left_first {s} Q b q name h = record {
-    rest = name;
-    remains = subst (Remains s) h.named (spelled_again (table text w) h.words (drop p text) h.rest (drop s.at text) h.read (lead s.more s.punycoded) h.is h.later b.is);
-    done = q name;
-  }
+  pub left_first : {s : Segments} (Q : Name → Name → Type 0) → Begun text w p s → ((name : Name) → Q name name) → Left Q s
+  left_first {s} Q b q name h =
+      let t : table text w ≡ words_of s = ap (λ (x : Text). table x w) (sym b.text) ∙ ap (table s.text.text.now) (sym b.words) in
+      let f = spelled_again (table text w) h.words (drop p text) h.rest (rest s.text) h.read (lead s.more s.punycoded) h.is h.later b.is in
+      record {
+        rest = name;
+        remains = subst (λ (n : Name). Follows (words_of s) s.punycoded (coming s) n) h.named (subst (λ (x : List Name). Follows x s.punycoded (segment_of x s.more s.punycoded (rest s.text)) h.read.name) t f);
+        done = q name;
+      }
 
-  module _ (s : Speller) where
-    abbrev here : Segment
-    here = segment_of (table text w) s.more s.punycoded (drop s.at text)
-
-    pub left_next : {least from to : ℕ} {next : Speller} {Q R : Name → Name → Type 0} → Taken here text least s.punycoded from to next → Left Q s →
-        ((name rest : Name) → Q name (part text from to ++ rest) → R name rest) → Left R next
-    left_next {from = from} {to = to} {next = next} {Q = Q} t l f name h =
+  module _ {s : Segments} where
+    pub left_next : {bytes : Name} {next : Segments} {Q R : Name → Name → Type 0} → Taken (coming s) bytes s next → Left Q s → ((name rest : Name) → Q name (bytes ++ rest) → R name rest) → Left R next
+    left_next {bytes} {next} {Q = Q} t l f name h =
         let y = l name h in
-        let b = parts (subst (λ (x : Segment). Follows (table text w) s.punycoded x y.rest) t.is y.remains) in
+        let b = parts (subst (λ (x : Segment). Follows (words_of s) s.punycoded x y.rest) t.is y.remains) in
+        let e : words_of s ≡ words_of next = ap (λ (x : Bor (List ℕ)). table x.now s.words.now) (sym t.text) ∙ ap (λ (x : Bor Words). table next.text.text.now x.now) (sym t.words) in
         record {
           rest = b.rest;
-          remains = subst⁻¹ (λ (c : Bool). Follows (table text w) c (segment_of (table text w) next.more c (drop next.at text)) b.rest) t.kept b.follows;
+          remains = subst (λ (x : List Name). Follows x next.punycoded (segment_of x next.more next.punycoded (rest next.text)) b.rest) e (subst (λ (c : Bool). Follows (words_of s) c (segment_of (words_of s) next.more c (rest next.text)) b.rest) (sym t.kept) b.follows);
           done = f name b.rest (subst (Q name) b.is y.done);
         }
 
-    pub left_end : {Q : Name → Name → Type 0} {R : Name → Type 0} → here ≡ end → Left Q s → ((name : Name) → Q name [] → R name) → (name : Name) → Spells text w p name → R name
+    pub left_end : {Q : Name → Name → Type 0} {R : Name → Type 0} → coming s ≡ end → Left Q s → ((name : Name) → Q name [] → R name) → (name : Name) → Spells text w p name → R name
     left_end {Q = Q} e l f name h =
         let y = l name h in
-        f name (subst (Q name) (parts (subst (λ (x : Segment). Follows (table text w) s.punycoded x y.rest) e y.remains)) y.done)
+        f name (subst (Q name) (parts (subst (λ (x : Segment). Follows (words_of s) s.punycoded x y.rest) e y.remains)) y.done)
 
     -- a segment at which the loop stops
-    pub left_stop : {least from to : ℕ} {next : Speller} {Q : Name → Name → Type 0} {R : Name → Type 0} → Taken here text least s.punycoded from to next → Left Q s →
-        ((name rest : Name) → Q name (part text from to ++ rest) → R name) → (name : Name) → Spells text w p name → R name
+    pub left_stop : {bytes : Name} {next : Segments} {Q : Name → Name → Type 0} {R : Name → Type 0} → Taken (coming s) bytes s next → Left Q s → ((name rest : Name) → Q name (bytes ++ rest) → R name) → (name : Name) → Spells text w p name → R name
     left_stop {next = next} {R = R} t l f name h = (left_next {R = λ (x y : Name). R x} t l f name h).done
 
   -- NAME_LENGTH
-  -- sum bytes of the name are before the cursor
-  pub record Counting (s : Speller) (sum : ℕ) : Type 0 where
-    pub inside : s.at ≤ length text
-    pub small : sum ≤ 65535 * s.at
+  -- sum bytes of the name were returned
+  pub record Counting (s : Segments) (sum : ℕ) : Type 0 where
+    pub short : length s.text.text.now ≤ 65535
+    pub small : sum ≤ 65535 * s.text.at
+    pub total : sum ≤ 65535 * 65535
     pub left : Left (λ name rest. length name ≡ sum + length rest) s
 
-  pub counting_first : {s : Speller} → Begun text p s → Counting s 0
-  counting_first {s} b = record { inside = b.inside; small = omega arith; left = left_first (λ name rest. length name ≡ 0 + length rest) b (λ name. omega arith) }
+  pub counting_first : length text ≤ 65535 → {s : Segments} → Begun text w p s → Counting s 0
+  counting_first h {s} b = record { short = rw b.text h; small = omega arith; total = omega arith; left = left_first (λ name rest. length name ≡ 0 + length rest) b (λ name. omega arith) }
 
-  module _ (s : Speller) (sum : ℕ) (c : Counting s sum) (short : length text ≤ 65535) where
-    pub counting_next : {from to : ℕ} {next : Speller} → Taken (here s) text (s.at + 1) s.punycoded from to next → Counting next (sum + (to - from))
-    counting_next {from} {to} {next} t = record {
-      inside = t.within;
-      small = omega (arith, c.small, t.onward, t.inside);
-      left = left_next s {R = λ name rest. length name ≡ (sum + (to - from)) + length rest} t c.left (λ name rest e. e ∙ omega (arith, length-append (part text from to) rest, part_length text from to t.inside));
-    }
+  pub counting_next : {s : Segments} {sum : ℕ} → Counting s sum → {bytes : Name} {next : Segments} → Taken (coming s) bytes s next → Counting next (sum + length bytes)
+  counting_next {s} {sum} c {bytes} {next} t =
+      let k : sum + length bytes ≤ 65535 * next.text.at = omega (arith, c.small, t.onward, t.short, c.short) in
+      record {
+        short = rw t.text c.short;
+        small = k;
+        total = omega (arith, t.within, c.short);
+        left = left_next {s = s} {R = λ name rest. length name ≡ (sum + length bytes) + length rest} t c.left (λ name rest e. e ∙ omega (arith, length-append bytes rest));
+      }
 
-    pub counting_end : here s ≡ end → LengthIs text w p sum
-    counting_end e = record { is = left_end s {R = λ name. sum ≡ length name} e c.left (λ name k. omega (arith, k)); small = omega (arith, c.small, c.inside) }
+  pub counting_end : {s : Segments} {sum : ℕ} → Counting s sum → coming s ≡ end → LengthIs text w p sum
+  counting_end {s} {sum} c e = record { is = left_end {s = s} {R = λ name. sum ≡ length name} e c.left (λ name k. omega (arith, k)); small = omega (arith, c.total) }
 
   -- PUT_NAME
-  -- appending the rest of the name at the cursor to o appends the whole to o₀
-  pub record Writing (o₀ o : Sink) (s : Speller) : Type 0 where
-    pub inside : s.at ≤ length text
+  -- appending the rest of the name to o appends the whole to o₀
+  pub record Writing (o₀ o : Sink) (s : Segments) : Type 0 where
     pub same : o.out.ghost_name ≡ o₀.out.ghost_name
     pub room : o.room ≡ o₀.room
     pub len : length o.out.now ≡ length o₀.out.now
     pub left : Left (λ name rest. Rest o₀ name o rest) s
 
-  pub writing_first : (o : Sink) {s : Speller} → Begun text p s → Writing o o s
-  writing_first o b = record { inside = b.inside; same = refl; room = refl; len = refl; left = left_first (λ name rest. Rest o name o rest) b (λ name. rest_start) }
+  pub writing_first : (o : Sink) {s : Segments} → Begun text w p s → Writing o o s
+  writing_first o b = record { same = refl; room = refl; len = refl; left = left_first (λ name rest. Rest o name o rest) b (λ name. rest_start) }
 
-  module _ (o₀ o : Sink) (s : Speller) (c : Writing o₀ o s) where
-    pub writing_next : {from to : ℕ} {next : Speller} {o' : Sink} → Taken (here s) text (s.at + 1) s.punycoded from to next → Appended o o' (part text from to) → Writing o₀ o' next
+  module _ {o₀ o : Sink} {s : Segments} (c : Writing o₀ o s) where
+    pub writing_next : {bytes : Name} {next : Segments} {o' : Sink} → Taken (coming s) bytes s next → Appended o o' bytes → Writing o₀ o' next
     writing_next {o' = o'} t v = record {
-      inside = t.within;
       same = v.same ∙ c.same;
       room = v.room ∙ c.room;
       len = v.wrote.len ∙ c.len;
-      left = left_next s {R = λ name rest. Rest o₀ name o' rest} t c.left (λ name rest e. rest_then v e);
+      left = left_next {s = s} {R = λ name rest. Rest o₀ name o' rest} t c.left (λ name rest e. rest_then v e);
     }
 
     pub writing_past : o.room < o.at → Spelled text w p o₀ o
     writing_past k = record { is = λ name h. rest_past k (c.left name h).done; same = c.same; room = c.room; len = c.len }
 
-    pub writing_end : here s ≡ end → Spelled text w p o₀ o
-    writing_end e = record { is = left_end s {R = λ name. Appended o₀ o name} e c.left (λ name k. rest_end k); same = c.same; room = c.room; len = c.len }
-
-  -- a name that does not begin with `0`: a length and its bytes
-  module _ (o : Sink) (l : p < length text) (z : get_or text p 0 ≡ 48 → ⊥) where
-    abbrev plain : Speller
-    plain = record { at = p; more = false; punycoded = false }
-
-    abbrev bytes_there : Segment
-    bytes_there = of_length false false (natural (drop p text))
-
-    no_zero : next_if (is "0") (drop p text) ≡ ok false (drop p text)
-    no_zero = next_if_leaves text p (is "0") l (ne_eqb (get_or text p 0) 48 z)
-
-    there : here plain ≡ bytes_there
-    there = segment_plain (table text w) false text p ∙ literal_open false false (drop p text) no_zero
-
-    begun : Writing o o plain
-    begun = writing_first o (record { is = start_plain (drop p text) no_zero; inside = omega arith })
-
-    pub plain_put : {from to : ℕ} {next : Speller} {o' : Sink} → Taken bytes_there text (p + 1) false from to next → Appended o o' (part text from to) → Spelled text w p o o'
-    plain_put {from} {to} {next} {o'} t v =
-        let (a, b) = last_length false (natural (drop p text)) t.is in
-        let k : Taken (here plain) text (p + 1) false from to next = record { is = there ∙ t.is; kept = t.kept; order = t.order; inside = t.inside; onward = t.onward; within = t.within } in
-        writing_end o o' next (writing_next o o plain begun k v)
-        (ap (λ (m : Bool). segment_of (table text w) m next.punycoded (drop next.at text)) a ∙ ap (segment_of (table text w) false next.punycoded) b ∙ no_text (table text w) next.punycoded)
-
-    pub plain_none : bytes_there ≡ end → Spelled text w p o o
-    plain_none e = writing_end o o plain begun (there ∙ e)
+    pub writing_end : coming s ≡ end → Spelled text w p o₀ o
+    writing_end e = record { is = left_end {s = s} {R = λ name. Appended o₀ o name} e c.left (λ name k. rest_end k); same = c.same; room = c.room; len = c.len }
 
   -- NAME_IS
-  -- the name up to the cursor is fixed[..k]
+  -- the rest of the name is compared with f
   module _ (fixed : Name) where
-    pub record Comparing (s : Speller) (k : ℕ) : Type 0 where
-      pub inside : s.at ≤ length text
-      pub fits : k ≤ length fixed
-      pub left : Left (λ name rest. same name fixed ≡ same rest (drop k fixed)) s
+    pub record Comparing (s : Segments) (f : Name) : Type 0 where
+      pub left : Left (λ name rest. same name fixed ≡ same rest f) s
 
-    pub comparing_first : {s : Speller} → Begun text p s → Comparing s 0
-    comparing_first {s} b = record { inside = b.inside; fits = omega arith; left = left_first (λ name rest. same name fixed ≡ same rest (drop 0 fixed)) b (λ name. refl) }
+    pub comparing_first : {s : Segments} → Begun text w p s → Comparing s fixed
+    comparing_first b = record { left = left_first (λ name rest. same name fixed ≡ same rest fixed) b (λ name. refl) }
 
-    module _ (s : Speller) (k : ℕ) (c : Comparing s k) where
-      module _ (from to : ℕ) (next : Speller) (t : Taken (here s) text (s.at + 1) s.punycoded from to next) where
-        abbrev a : Name
-        a = part text from to
+    module _ {s : Segments} {f : Name} (c : Comparing s f) where
+      module _ {bytes : Name} {next : Segments} (t : Taken (coming s) bytes s next) {d : Bool} (g : pointwise eqb (take (length bytes) f) bytes ≡ d) where
+        segment_first : (name rest : Name) → same name fixed ≡ same (bytes ++ rest) f → same name fixed ≡ (d && same rest (drop (length bytes) f))
+        segment_first name rest e = e ∙ same_parts bytes rest f ∙ ap (λ (x : Bool). x && same rest (drop (length bytes) f)) (sym (first_same (take (length bytes) f) bytes) ∙ g)
 
-        -- the segment, and what is at its place
-        abbrev pub Agree : Bool → Type 0
-        Agree b = b ≡ same a (take (length a) (drop k fixed))
+        pub comparing_next : d ≡ true → {f' : Name} → f' ≡ drop (length bytes) f → Comparing next f'
+        comparing_next z {f'} e = record { left = left_next {s = s} {R = λ name rest. same name fixed ≡ same rest f'} t c.left (λ name rest h. segment_first name rest h ∙ ap (λ (x : Bool). x && same rest (drop (length bytes) f)) z ∙ ap (same rest) (sym e)) }
 
-        segment_first : (b : Bool) → Agree b → (name rest : Name) → same name fixed ≡ same (a ++ rest) (drop k fixed) → same name fixed ≡ (b && same rest (drop (k + (to - from)) fixed))
-        segment_first b g name rest e =
-            let l : length a ≡ to - from = part_length text from to t.inside in
-            e ∙ same_parts a rest (drop k fixed) ∙ ap (λ (x : Bool). x && same rest (drop (length a) (drop k fixed))) (sym g)
-            ∙ ap (λ (x : Name). b && same rest x) (drop-drop (length a) k fixed ∙ ap (λ (m : ℕ). drop (k + m) fixed) l)
+        pub comparing_differs : d ≡ false → (name : Name) → Spells text w p name → false ≡ same name fixed
+        comparing_differs z = left_stop {s = s} {R = λ name. false ≡ same name fixed} t c.left (λ name rest h. sym (segment_first name rest h ∙ ap (λ (x : Bool). x && same rest (drop (length bytes) f)) z))
 
-        pub comparing_fits : {b : Bool} → Agree b → b ≡ true → k + (to - from) ≤ length fixed
-        comparing_fits g e =
-            let h : length a ≤ length (drop k fixed) = same_long a (drop k fixed) (sym g ∙ e) in
-            omega (arith, h, part_length text from to t.inside, length-drop k fixed, c.fits)
+      pub comparing_end : coming s ≡ end → {r : Bool} → r ≡ same [] f → (name : Name) → Spells text w p name → r ≡ same name fixed
+      comparing_end e {r} q = left_end {s = s} {R = λ name. r ≡ same name fixed} e c.left (λ name h. q ∙ sym h)
 
-        pub comparing_next : {b : Bool} → Agree b → b ≡ true → Comparing next (k + (to - from))
-        comparing_next {b} g e = record {
-          inside = t.within;
-          fits = comparing_fits g e;
-          left = left_next s {R = λ name rest. same name fixed ≡ same rest (drop (k + (to - from)) fixed)} t c.left (λ name rest h. segment_first true (sym e ∙ g) name rest h);
-        }
+-- A NAME THAT DOES NOT BEGIN WITH `0`: A LENGTH AND ITS BYTES
+no_text : (words : List Name) (punycoded : Bool) → segment_of words false punycoded [] ≡ end
+unfolding segment_of literal_segment next_if natural peek
+no_text words punycoded = refl
 
-        pub comparing_differs : {b : Bool} → Agree b → b ≡ false → (name : Name) → Spells text w p name → false ≡ same name fixed
-        comparing_differs g e = left_stop s {R = λ name. false ≡ same name fixed} t c.left (λ name rest h. sym (segment_first false (sym e ∙ g) name rest h))
+module _ (first : Reader) (words : Bor Words) (g : Fitting first.text.now words.now) {r : Reader} (l : Reads.Left (next_if (is "0")) first r) where
+  abbrev plain : Segments
+  plain = record { text = r; words = words; more = false; punycoded = false; fits = rw l.text g }
 
-      ended_here : (k ≡ length fixed) ⊎ (k < length fixed) → eqb k (length fixed) ≡ same [] (drop k fixed)
-      ended_here (inl e) = eq-eqb k (length fixed) e ∙ ap (same []) (sym (ended fixed k (omega arith)))
-      ended_here (inr l) = ne_eqb k (length fixed) (λ (e : k ≡ length fixed). omega arith) ∙ ap (same []) (sym (front fixed k l))
+  begun : Begun first.text.now words.now first.at plain
+  begun = begun_plain plain l refl refl refl
 
-      pub comparing_end : here s ≡ end → (name : Name) → Spells text w p name → eqb k (length fixed) ≡ same name fixed
-      comparing_end e = left_end s {R = λ name. eqb k (length fixed) ≡ same name fixed} e c.left (λ name h. ended_here (eq-or-lt_of_le c.fits) ∙ sym h)
+  there : coming plain ≡ of_length false false (natural (rest r))
+  there =
+      let e : rest r ≡ rest first = rw (l.text, l.here) in
+      segment_plain (table r.text.now words.now) false (rest r) ∙ literal_open false false (rest r) (ap (next_if (is "0")) e ∙ l.is)
+
+  pub plain_put : {bytes : Name} {new : Reader} → Measured bytes false r new → {o o' : Sink} → Appended o o' bytes → Spelled first.text.now words.now first.at o o'
+  plain_put {bytes} {new} m {o} v =
+      let last : Segments = record { text = record { text = new.text; at = length new.text.now }; words = words; more = false; punycoded = false; fits = rw (m.text, l.text) g } in
+      let t = part_last {s = plain} m refl {r = last} refl refl refl refl in
+      let k : Taken (coming plain) bytes plain last = record { is = there ∙ t.is; text = t.text; words = t.words; kept = t.kept; short = t.short; onward = t.onward; within = t.within } in
+      writing_end first.text.now words.now first.at (writing_next first.text.now words.now first.at (writing_first first.text.now words.now first.at o begun) k v)
+      (ap (λ (u : Text). segment_of (table new.text.now words.now) false false u) (drop-length new.text.now) ∙ no_text (table new.text.now words.now) false)
+
+  pub plain_none : Unmeasured false r → (o : Sink) → Spelled first.text.now words.now first.at o o
+  plain_none u o = writing_end first.text.now words.now first.at (writing_first first.text.now words.now first.at o begun) (there ∙ u.is false)

@@ -1,3 +1,4 @@
 pub mod Spelled
 pub mod Segments
 pub mod SegmentsRead
+pub mod Measures

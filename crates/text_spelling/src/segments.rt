@@ -1,168 +1,125 @@
-// The segments of an identifier, one after another, using the table of words.
-ghost use Rattle.std.specs.Prelude.{◌≡◌, ◌+◌, ◌≤◌, ◌<◌, length, drop};
-ghost use Rattle.std.proofs.Math.ListN.{get_elem?};
-ghost use Rattle.definition.specs.Text.{Text, natural};
-ghost use Rattle.text_words.specs.Table.{table, Fitting};
-ghost use Rattle.text_spelling.specs.Segments as P;
-ghost use Rattle.text_spelling.specs.SegmentsRead.{Begun, SegmentIs, Passed};
+// The segments of a name, one after another, using the table of words.
+ghost use Rattle.text_words.specs.Table.{Fitting};
+ghost use Rattle.text_spelling.specs.Measures.{MeasuredIs};
 
-use text_cursor::{Cursor, Number, is_lower, is_upper, natural, next_if};
+use text_cursor::{Reader, is_lower, is_upper};
 use text_words::Words;
 
-// A cursor into an identifier: whether word letters may follow, and whether it is punycode.
-#[derive(Clone, Copy)]
-pub struct Speller {
-    at: usize,
+// Reads a length above 0 and returns its bytes. One `_` may follow the length of a punycode name.
+pub fn measured<'a>(text: &mut Reader<'a>, punycoded: bool) -> Option<&'a [u8]>
+    ensures { MeasuredIs punycoded text.old text.new result }
+{
+    let Ok(n) = text.natural() else {
+        return None;
+    };
+    if n == 0 {
+        return None;
+    }
+    if punycoded {
+        text.next_if(b'_');
+    }
+    text.take(n)
+}
+
+// What is left of a name: the text from the next segment on, whether word letters may follow, and
+// whether the name is punycode.
+// Kept: this is an iterator's state; both flags say what may follow, beside no value of their own.
+#[derive(Drop)]
+pub struct Segments<'a> {
+    text: Reader<'a>,
+    words: &'a Words,
     more: bool,
     punycoded: bool,
+    ghost fits: { Fitting text.text.now words.now },
 }
 
-// What is at the cursor: the bytes text[from..to], with the next cursor; or the end.
-#[derive(Clone, Copy)]
-pub enum Segment {
-    Part(usize, usize, Speller),
-    End,
-}
+impl<'a> Segments<'a> {
+    ghost use Rattle.std.specs.Prelude.{◌≡◌};
+    ghost use Rattle.std.proofs.Math.ListN.{get_elem?};
+    ghost use Rattle.definition.specs.Text.{natural};
+    ghost use Rattle.text_cursor.specs.Reads.{rest};
+    ghost use Rattle.text_words.specs.Table.{table};
+    ghost use Rattle.text_spelling.specs.Segments as P;
+    ghost use Rattle.text_spelling.specs.SegmentsRead.{Begun, SegmentIs, WordIs, LetterIs, coming};
 
-// Returns the cursor after the leading `0` or `00`.
-pub fn first(text: &[u8], p: usize) -> Speller
-    requires { p ≤ length text.now }
-    ensures { Begun text.now p result }
-{
-    let one = next_if(text, Cursor { at: p }, b'0');
-    let zero = one.taken;
-    let next = one.next;
-    if zero {
-        let two = next_if(text, next, b'0');
-        let punycoded = two.taken;
-        let behind = two.next;
-        return Speller {
-            at: behind.at,
+    // The segments of the name at p, which follow its leading `0` or `00`.
+    pub fn new(text: &'a [u8], p: usize, words: &'a Words) -> Segments<'a>
+        requires { Fitting text.now words.now }
+        ensures { Begun text.now words.now p result }
+    {
+        let mut text = Reader { text, at: p };
+        if !text.next_if(b'0') {
+            return Segments {
+                text,
+                words,
+                more: false,
+                punycoded: false,
+            };
+        }
+        let punycoded = text.next_if(b'0');
+        Segments {
+            text,
+            words,
             more: !punycoded,
             punycoded,
-        };
-    }
-    Speller {
-        at: next.at,
-        more: false,
-        punycoded: false,
-    }
-}
-
-// Returns the word that a letter represents, with the cursor after the letter.
-fn word(known: &Words, i: usize, next: Speller) -> Segment
-    requires { known.now.count ≤ 26 }
-    ensures { (text : Text) → Fitting text known.now → next.at ≤ length text → SegmentIs (P.of_word (get_elem? (table text known.now) i) next.more (drop next.at text)) text next.at next.punycoded result }
-{
-    match known.get(i) {
-        Some(span) => Segment::Part(span.from(), span.to(), next),
-        None => Segment::End,
-    }
-}
-
-// Returns the place after the `_` that may follow the length of a punycode name.
-fn behind_mark(text: &[u8], at: usize, punycoded: bool) -> usize
-    requires { at ≤ length text.now }
-    ensures { Passed (P.mark punycoded (drop at text.now)) text.now at result }
-{
-    if punycoded {
-        let mark = next_if(text, Cursor { at }, b'_');
-        let next = mark.next;
-        return next.at;
-    }
-    at
-}
-
-// Returns the n bytes after a length, which ends at `at`. If no word letters may follow, the name
-// ends with these bytes: no text is left.
-fn counted(text: &[u8], at: usize, n: usize, more: bool, punycoded: bool) -> Segment
-    requires { at ≤ length text.now }
-    ensures { SegmentIs (P.of_bytes more (P.counted punycoded n (drop at text.now))) text.now at punycoded result }
-{
-    if n == 0 {
-        return Segment::End;
-    }
-    let from = behind_mark(text, at, punycoded);
-    let len = text.len();
-    if len - from < n {
-        return Segment::End;
-    }
-    let to = from + n;
-    if more {
-        let next = Speller {
-            at: to,
-            more,
-            punycoded,
-        };
-        return Segment::Part(from, to, next);
-    }
-    let last = Speller {
-        at: len,
-        more,
-        punycoded,
-    };
-    Segment::Part(from, to, last)
-}
-
-// Reads a length and its bytes.
-pub fn of_length(text: &[u8], at: usize, more: bool, punycoded: bool) -> Segment
-    requires { at ≤ length text.now }
-    ensures { SegmentIs (P.of_length more punycoded (natural (drop at text.now))) text.now (at + 1) punycoded result }
-{
-    match natural(text, Cursor { at }) {
-        Number::Read(n, c) => counted(text, c.at, n, more, punycoded),
-        Number::Refused(_) => Segment::End,
-    }
-}
-
-// The same, unless a `0` ends the name.
-fn literal(text: &[u8], at: usize, more: bool, punycoded: bool) -> Segment
-    requires { at ≤ length text.now }
-    ensures { SegmentIs (P.literal_segment more punycoded (drop at text.now)) text.now (at + 1) punycoded result }
-{
-    let zero = next_if(text, Cursor { at }, b'0');
-    let closed = zero.taken;
-    let next = zero.next;
-    if closed {
-        return Segment::End;
-    }
-    of_length(text, next.at, more, punycoded)
-}
-
-// Returns the segment at the cursor.
-pub fn next_segment(text: &[u8], known: &Words, s: Speller) -> Segment
-    requires { (s.at ≤ length text.now) × Fitting text.now known.now }
-    ensures { SegmentIs (P.segment_of (table text.now known.now) s.more s.punycoded (drop s.at text.now)) text.now (s.at + 1) s.punycoded result }
-{
-    let at = s.at;
-    let more = s.more;
-    let punycoded = s.punycoded;
-    if more {
-        if at < text.len() {
-            let b = text[at];
-            if is_lower(b) {
-                return word(
-                    known,
-                    (b - 97) as usize,
-                    Speller {
-                        at: at + 1,
-                        more: true,
-                        punycoded,
-                    },
-                );
-            }
-            if is_upper(b) {
-                return word(
-                    known,
-                    (b - 65) as usize,
-                    Speller {
-                        at: at + 1,
-                        more: false,
-                        punycoded,
-                    },
-                );
-            }
         }
     }
-    literal(text, at, more, punycoded)
+
+    // The word with number i.
+    fn word(&self, i: usize) -> Option<&'a [u8]>
+        ensures { WordIs (get_elem? (table self.now.text.text.now self.now.words.now) i) self.now.text.text.now result }
+    {
+        let span = self.words.get(i)?;
+        Some(&self.text.text[span.from()..span.to()])
+    }
+
+    // Reads a length and returns its bytes. If no word letters may follow, the name ends with these
+    // bytes: no text is left.
+    fn counted(&mut self) -> Option<&'a [u8]>
+        ensures { SegmentIs (P.of_length self.old.more self.old.punycoded (natural (rest self.old.text))) self.old self.new result }
+    {
+        let mut text = self.text;
+        let bytes = measured(&mut text, self.punycoded)?;
+        if !self.more {
+            text.at = text.text.len();
+        }
+        self.text = text;
+        Some(bytes)
+    }
+
+    // Takes the letter of a word, and returns the word's number. After a capital no further letter
+    // may follow.
+    fn letter(&mut self) -> Option<usize>
+        ensures { LetterIs self.old self.new result }
+    {
+        if !self.more {
+            return None;
+        }
+        let mut text = self.text;
+        let b = text.next_if_any()?;
+        if is_lower(b) {
+            self.text = text;
+            return Some(usize::from(b - b'a'));
+        }
+        if is_upper(b) {
+            self.text = text;
+            self.more = false;
+            return Some(usize::from(b - b'A'));
+        }
+        None
+    }
+
+    // Returns the next segment: a word for a letter, or the bytes after a length, unless a `0` ends
+    // the name.
+    pub fn next(&mut self) -> Option<&'a [u8]>
+        ensures { SegmentIs (coming self.old) self.old self.new result }
+    {
+        if let Some(i) = self.letter() {
+            return self.word(i);
+        }
+        if self.text.next_if(b'0') {
+            return None;
+        }
+        self.counted()
+    }
 }

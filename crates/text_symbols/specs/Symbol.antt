@@ -13,13 +13,16 @@ abbrev pub PrefixIs : Option ℕ → Std.Option ℕ → Type 0
 PrefixIs out (Some n) = out ≡ some n
 PrefixIs out None = out ≡ none
 
+abbrev pub dot : ℕ
+dot = 46
+
 abbrev pub no_dot : ℕ → Bool
 no_dot b = not (is "." b)
 
--- the text before the first dot at `from` or later ends at end
-pub record Ends (text : Text) (from end : ℕ) : Type 0 where
-  pub is : from + length (before_dot (drop from text)) ≡ end
-  pub inside : end ≤ length text
+-- n bytes are before the first dot, or in all
+pub record BeforeDot (text : Text) (n : ℕ) : Type 0 where
+  pub is : length (before_dot text) ≡ n
+  pub inside : n ≤ length text
 
 abbrev pub symbol : Text → ℕ → ℕ → Text.Symbol
 symbol text start end = record { start = start; body = take (end - start) (drop start text); suffix = drop end text }

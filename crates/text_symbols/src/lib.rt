@@ -1,14 +1,14 @@
 // The parts of a symbol: prefix, body and suffix.
 #![tactic(auto)]
 
-ghost use Rattle.std.specs.Prelude.{◌≡◌, ◌≤◌, length, drop};
+ghost use Rattle.std.specs.Prelude.{◌≡◌, ◌==◌, drop, position};
 ghost use Rattle.definition.specs.Text as Text;
-ghost use Rattle.text_symbols.specs.Symbol.{PrefixIs, Ends, SplitIs};
+ghost use Rattle.text_symbols.specs.Symbol.{dot, BeforeDot, PrefixIs, SplitIs};
 
 use text_cursor::scan::past;
 
 // A symbol's body is text[start..end], its suffix text[end..].
-#[derive(Clone, Copy, Debug, PartialEq, Eq)]
+#[derive(Clone, Copy)]
 pub struct Parts {
     pub start: usize,
     pub end: usize,
@@ -33,18 +33,22 @@ pub fn prefix(text: &[u8]) -> Option<usize>
     None
 }
 
-// Returns the place of the first dot, or the end.
-fn dot(text: &[u8], from: usize) -> usize
-    requires { from ≤ length text.now }
-    ensures { Ends text.now from result }
+// Returns the place of the first dot, if there is one.
+fn first_dot(text: &[u8]) -> Option<usize>
+    ensures { result ≡ position (λ b. b == dot) text.now }
 {
-    let start = past(text, from, |b| b != b'.');
-    for at in start..text.len() {
-        if text[at] == b'.' {
-            return at;
-        }
+    text.iter().position(|b| *b == b'.')
+}
+
+// Returns how many bytes are before the first dot.
+fn before_dot(text: &[u8]) -> usize
+    ensures { BeforeDot text.now result }
+{
+    let start = past(text, |b| b != b'.');
+    match first_dot(&text[start..]) {
+        Some(n) => start + n,
+        None => text.len(),
     }
-    text.len()
 }
 
 // Returns the parts of a symbol whose prefix ends at start.
@@ -54,7 +58,7 @@ fn split_at(text: &[u8], start: usize) -> Option<Parts>
     if text.len() <= start {
         return None;
     }
-    let end = dot(text, start);
+    let end = start + before_dot(&text[start..]);
     Some(Parts { start, end })
 }
 

@@ -1,18 +1,17 @@
 -- Characters of UTF-8 at a place of a text. Assumes nothing.
-use mathlib.Core.Path.{◌≡◌, refl, subst, ap, ◌∙◌}
+use mathlib.Core.Path.{◌≡◌, refl, sym, subst, ap, ◌∙◌}
+use Rattle.std.proofs.lemmas.List.{get_or-drop, take_all}
 use mathlib.Core.Bool.{Bool, true, false, ◌&&◌, and-false, and-eq-true_iff}
 use mathlib.Core.List.{List, [], ◌∷◌}
-use mathlib.Core.Option.{Option, some, none}
+use mathlib.Core.Option.{some, none}
 use Prim.Native.Nat.{ℕ, zero, suc, ◌+◌, ◌-◌, ◌≤◌, ◌<◌}
 use native.Mathlib.Omega.{arith}
 use borrow.Author.Tests.{lt-ltb, le-ltb, ltb-true, leb-true, lt-leb, le-leb}
 use lib.Dec.{leb, ltb}
-use lib.ListN.{length, get_or, drop, length-drop}
+use lib.ListN.{length, get_or, take, drop, length-drop}
 use Rattle.definition.specs.Base.{between}
 use Rattle.definition.specs.Text.{Text, Utf8Row, utf8_row, utf8_rows, tails, second, by_row, character, ill_formed_from, ill_formed, well_formed}
-use Rattle.text_utf8.specs.Utf8.{row, Follows, Passed, below_80}
-use Rattle.std.specs.Prelude as Std
-use Rattle.std.specs.Prelude.{Some, None}
+use Rattle.text_utf8.specs.Utf8.{row, below_80}
 use Rattle.text_utf8.specs.declared.Row.{Row}
 use Rattle.text_cursor.specs.Each.{Each}
 use Rattle.text_cursor.proofs.Steps.{front, ended}
@@ -75,46 +74,11 @@ module _ (b : ℕ) (t : Text) where
       let l : r.last < b = omega arith in
       rw (by_row, lt-leb b r.last l, and-false (leb r.first b)) (no_row_above rs q.1 h)
 
--- THE BYTES AFTER THE FIRST
--- the loop of `tails`
-pub record Tailing (text : Text) (n from left at : ℕ) : Type 0 where
-  pub inside : at ≤ length text
-  pub onward : from ≤ at
-  pub same : tails n (drop from text) ≡ tails left (drop at text)
-
-module _ (text : Text) (at : ℕ) where
-  pub tails_more : (n : ℕ) → 0 < n → at < length text → between 0x80 0xBF (get_or text at 0) ≡ true → tails n (drop at text) ≡ tails (n - 1) (drop (at + 1) text)
-  unfolding tails
-  tails_more zero z h e = absurd (omega arith)
-  tails_more (suc n) z h e = let k : suc n - 1 ≡ n = omega arith in rw (k, front text at h, tails, e)
-
-  pub tails_other : (n : ℕ) → 0 < n → at < length text → between 0x80 0xBF (get_or text at 0) ≡ false → tails n (drop at text) ≡ none
-  unfolding tails
-  tails_other zero z h e = absurd (omega arith)
-  tails_other (suc n) z h e = rw (front text at h, tails, e)
-
-  pub tails_short : (n : ℕ) → 0 < n → length text ≤ at → tails n (drop at text) ≡ none
-  unfolding tails
-  tails_short zero z h = absurd (omega arith)
-  tails_short (suc n) z h = rw (ended text at h)
-
-  pub tails_done : (n : ℕ) → n ≤ 0 → tails n (drop at text) ≡ some (drop at text)
-  unfolding tails
-  tails_done zero z = refl
-  tails_done (suc n) z = absurd (omega arith)
-
-  module _ (r : Utf8Row) where
-    pub second_read : at < length text → between r.low r.high (get_or text at 0) ≡ true → second r (drop at text) ≡ tails r.more (drop (at + 1) text)
-    unfolding second
-    second_read h e = rw (front text at h, second, e)
-
-    pub second_other : at < length text → between r.low r.high (get_or text at 0) ≡ false → second r (drop at text) ≡ none
-    unfolding second
-    second_other h e = rw (front text at h, second, e)
-
-    pub second_short : length text ≤ at → second r (drop at text) ≡ none
-    unfolding second
-    second_short h = rw (ended text at h)
+-- one of k bytes
+pub tails_step : (k : ℕ) {t u : Text} {b : ℕ} → 0 < k → t ≡ b ∷ u → between 0x80 0xBF b ≡ true → tails k t ≡ tails (k - 1) u
+unfolding tails
+tails_step zero z h e = absurd (omega arith)
+tails_step (suc n) z h e = let k : suc n - 1 ≡ n = omega arith in rw (k, h, tails, e)
 
 pub character_ascii : (b : ℕ) (t : Text) → b < 128 → character b t ≡ some t
 unfolding character
@@ -123,10 +87,6 @@ character_ascii b t h = rw (character, lt-ltb _ _ h)
 pub character_row : (b : ℕ) (t : Text) → 128 ≤ b → character b t ≡ by_row b utf8_rows t
 unfolding character
 character_row b t h = rw (character, le-ltb _ _ h)
-
-pub passed_is : (text : Text) {o o' : Option Text} {least least' : ℕ} → o ≡ o' → least ≤ least' → (r : Std.Option ℕ) → Passed o' text least' r → Passed o text least r
-passed_is text e l (Some next) h = record { is = e ∙ h.is; inside = h.inside; onward = omega arith }
-passed_is text e l None h = e ∙ h
 
 -- THE TEXT
 -- the loop of `ill_formed`: the text before `at` is well-formed
@@ -157,11 +117,11 @@ unfolding ill_formed
 scan_start text = record { fuel = length text; enough = omega arith; inside = omega arith; same = refl }
 
 module _ {text : Text} {at : ℕ} (s : Scanning text at) where
-  pub scan_more : at < length text → {next : ℕ} → Follows (character (get_or text at 0) (drop (at + 1) text)) text (at + 1) next → Scanning text next
-  scan_more h g =
+  pub scan_more : at < length text → {next : ℕ} → character (get_or text at 0) (drop (at + 1) text) ≡ some (drop next text) → next ≤ length text → at + 1 ≤ next → Scanning text next
+  scan_more h {next} g l m =
       let e = s.enough in
       let z : 0 < s.fuel = omega arith in
-      record { fuel = s.fuel - 1; enough = omega arith; inside = g.inside; same = s.same ∙ from_more text at (length text) s.fuel z h g.is }
+      record { fuel = s.fuel - 1; enough = omega arith; inside = l; same = s.same ∙ from_more text at (length text) s.fuel z h g }
 
   pub scan_bad : at < length text → character (get_or text at 0) (drop (at + 1) text) ≡ none → ill_formed text ≡ some at
   scan_bad h g =
@@ -170,19 +130,28 @@ module _ {text : Text} {at : ℕ} (s : Scanning text at) where
       let k : length text - length (drop at text) ≡ at = omega (arith, length-drop at text) in
       s.same ∙ from_bad text at (length text) s.fuel z h g ∙ ap (λ (i : ℕ). some i) k
 
-  pub scan_end : length text ≤ at → ill_formed text ≡ none
-  scan_end h = s.same ∙ from_end text at (length text) s.fuel h
+-- ASCII is skipped: from `at` on, what is left has n bytes of it
+scan_ascii : {text : Text} {at : ℕ} (n : ℕ) → Scanning text at → n ≤ length text - at → Each below_80 (drop at text) n → Scanning text (at + n)
+scan_ascii {text} {at} zero s l h = let k : at ≡ at + 0 = omega arith in subst (Scanning text) k s
+scan_ascii {text} {at} (suc n) s l h =
+    let i : at < length text = omega arith in
+    let k₀ : at + 0 ≡ at = omega arith in
+    let first : get_or (drop at text) 0 0 ≡ get_or text at 0 = get_or-drop at text 0 0 ∙ ap (λ (m : ℕ). get_or text m 0) k₀ in
+    let b : get_or text at 0 < 128 = ltb-true _ _ (ap below_80 (sym first) ∙ h.at 0 (omega arith)) in
+    let one = scan_more s i {next = at + 1} (character_ascii (get_or text at 0) (drop (at + 1) text) b) (omega arith) (omega arith) in
+    let k : at + 1 + n ≡ at + suc n = omega arith in
+    subst (Scanning text) k (scan_ascii {at = at + 1} n one (omega arith) (record { at = λ j r. next_place j ∙ h.at (j + 1) (omega arith) }))
+  where
+    next_place : (j : ℕ) → below_80 (get_or (drop (at + 1) text) j 0) ≡ below_80 (get_or (drop at text) (j + 1) 0)
+    next_place j = let k : at + 1 + j ≡ at + (j + 1) = omega arith in ap below_80 (get_or-drop (at + 1) text j 0 ∙ ap (λ (m : ℕ). get_or text m 0) k ∙ sym (get_or-drop at text (j + 1) 0))
 
--- ASCII is skipped
-scan_ascii : {text : Text} {at : ℕ} (n to : ℕ) → at + n ≡ to → Scanning text at → to ≤ length text → Each below_80 text at to → Scanning text to
-scan_ascii {text} {at} zero to e s l h = let k : at ≡ to = omega arith in subst (Scanning text) k s
-scan_ascii {text} {at} (suc n) to e s l h =
-    let b : get_or text at 0 < 128 = ltb-true _ _ (h.at at (omega arith) (omega arith)) in
-    let one = scan_more s (omega arith) {next = at + 1} (record { is = character_ascii (get_or text at 0) (drop (at + 1) text) b; inside = omega arith; onward = omega arith }) in
-    scan_ascii {at = at + 1} n to (omega arith) one l (record { at = λ i g r. h.at i (omega arith) r })
+pub scan_past : {text : Text} {at n : ℕ} → Scanning text at → (n ≤ length (take (length text - at) (drop at text))) × Each below_80 (take (length text - at) (drop at text)) n → Scanning text (at + n)
+scan_past {text} {at} {n} s h =
+    let a : take (length text - at) (drop at text) ≡ drop at text = take_all _ _ (omega (arith, length-drop at text)) in
+    scan_ascii n s (omega (arith, h.0, ap length a, length-drop at text)) (subst (λ (t : Text). Each below_80 t n) a h.1)
 
-pub scan_past : {text : Text} {at r : ℕ} → Scanning text at → (at ≤ r) × (r ≤ length text) × Each below_80 text at r → Scanning text r
-scan_past {text} {at} {r} s h = scan_ascii (r - at) r (omega (arith, h.0)) s h.1 h.2
+pub scan_first : (text : Text) {n : ℕ} → (n ≤ length text) × Each below_80 text n → Scanning text n
+scan_first text {n} h = let k : 0 + n ≡ n = omega arith in subst (Scanning text) k (scan_ascii n (scan_start text) (omega (arith, h.0)) h.1)
 
 pub well_formed_no : (t : Text) {i : ℕ} → ill_formed t ≡ some i → well_formed t ≡ false
 unfolding well_formed

@@ -1,11 +1,13 @@
 // UTF-8.
-#![tactic(auto)]
+#![tactic(auto, unfolding(definition::specs::Text::opened))]
 
-ghost use Rattle.std.specs.Prelude.{◌≡◌, true, ◌+◌, ◌-◌, ◌≤◌, ◌<◌, length, get_or, take, drop};
+ghost use Rattle.std.specs.Prelude.{◌≡◌, true, ◌-◌, ◌≤◌, ◌<◌, length, take, drop};
 ghost use Rattle.definition.specs.Base as Base;
 ghost use Rattle.definition.specs.Text as Text;
-ghost use Rattle.text_utf8.specs.Utf8.{row, RowIs, Passed, Placed};
+ghost use Rattle.text_cursor.specs.Reads.{rest};
+ghost use Rattle.text_utf8.specs.Utf8.{row, RowIs, Skips, Placed};
 
+use text_cursor::Reader;
 use text_cursor::scan::past;
 
 // A row of RFC 3629, section 4, without its first bytes: the second byte is between `low` and
@@ -57,59 +59,58 @@ fn is_tail(b: u8) -> bool
     (0x80..=0xBF).contains(&b)
 }
 
-// Returns the place after n bytes of 80 to BF.
-fn tails(text: &[u8], from: usize, n: usize) -> Option<usize>
-    requires { from ≤ length text.now }
-    ensures { Passed (Text.tails n (drop from text.now)) text.now from result }
+// Takes n bytes of 80 to BF.
+fn tails(text: &mut Reader, n: usize) -> Option<()>
+    ensures { Skips (Text.tails n (rest text.old)) text.old text.new result }
 {
-    let mut at = from;
     for _ in 0..n {
-        if !is_tail(*text.get(at)?) {
+        if !is_tail(text.next_if_any()?) {
             return None;
         }
-        at += 1;
     }
-    Some(at)
+    Some(())
 }
 
-// Returns the place after the bytes that follow the first, by its row.
-fn second(text: &[u8], at: usize, r: Row) -> Option<usize>
-    ensures { Passed (Text.second (row r) (drop at text.now)) text.now at result }
+// Takes the bytes that follow the first byte of a character, by its row.
+fn second(text: &mut Reader, r: Row) -> Option<()>
+    ensures { Skips (Text.second (row r) (rest text.old)) text.old text.new result }
 {
-    if !r.continues(*text.get(at)?) {
+    if !r.continues(text.next_if_any()?) {
         return None;
     }
-    tails(text, at + 1, r.more)
+    tails(text, r.more)
 }
 
-// Returns the place after the character at a place.
-fn character(text: &[u8], at: usize) -> Option<usize>
-    requires { at < length text.now }
-    ensures { Passed (Text.character (get_or text.now at 0) (drop (at + 1) text.now)) text.now (at + 1) result }
+// Takes the bytes that follow the first byte b of a character.
+fn character(text: &mut Reader, b: u8) -> Option<()>
+    ensures { Skips (Text.character b (rest text.old)) text.old text.new result }
 {
-    let b = text[at];
     if b.is_ascii() {
-        return Some(at + 1);
+        return Some(());
     }
-    second(text, at + 1, row_of(b)?)
+    second(text, row_of(b)?)
 }
 
 // The place of the first ill-formed sequence.
 pub fn ill_formed(text: &[u8]) -> Option<usize>
     ensures { Placed (Text.ill_formed text.now) result }
 {
-    let mut at = past(text, 0, |b| b < 0x80);
-    while at < text.len() {
-        let Some(next) = character(text, at) else {
+    let mut at = past(text, |b| b < 0x80);
+    // Kept: each turn takes a character and the ASCII after it, so an iterator over bytes does not
+    // serve.
+    while let Some(b) = text.get(at) {
+        let mut reader = Reader { text, at: at + 1 };
+        let Some(()) = character(&mut reader, *b) else {
             return Some(at);
         };
-        at = past(text, next, |b| b < 0x80);
+        at = reader.at + past(&text[reader.at..], |b| b < 0x80);
     }
     None
 }
 
 // Whether text[from..to] is well-formed, if the whole text is: it begins and ends between
 // characters.
+// Kept: the byte after the part decides, too, so the whole text is given, and the part by its ends.
 pub fn between_characters(text: &[u8], from: usize, to: usize) -> bool
     requires { (from < to) × (to ≤ length text.now) × (Text.well_formed text.now ≡ true) }
     ensures { result ≡ Text.well_formed (take (to - from) (drop from text.now)) }

@@ -1,5 +1,5 @@
 -- The table, and one more word. Assumes nothing.
-use mathlib.Core.Path.{◌≡◌, refl, sym, ap, ap₂, ◌∙◌}
+use mathlib.Core.Path.{◌≡◌, refl, sym, ap, ◌∙◌}
 use mathlib.Core.Bool.{Bool, true, false, ◌&&◌, and-eq-true_iff}
 use mathlib.Core.List.{List, [], ◌∷◌, ◌++◌}
 use Prim.Native.Nat.{ℕ, zero, suc, ◌+◌, ◌-◌, ◌≤◌, ◌<◌}
@@ -13,7 +13,7 @@ use lib.Seq.{get_or-set_same, get_or-set_other}
 use Rattle.definition.specs.Base.{Name}
 use Rattle.definition.specs.Text.{Text}
 use Rattle.definition.specs.Words.{keep}
-use Rattle.text_words.specs.Table.{part, Words, span_at, words_of, table, Fitting, Lists}
+use Rattle.text_words.specs.Table.{spanned, Words, span_at, words_of, table, Fitting, Lists}
 use Rattle.text_words.specs.declared.spans.Span.{Span}
 use Rattle.text_words.proofs.Parts.{part_length}
 
@@ -65,46 +65,49 @@ module _ (word : Name) (ws : List Name) where
   unfolding keep
   keep_adds e = rw (keep, e)
 
-module _ (text : Text) (start end : ℕ) (l : start ≤ end) (e : end ≤ length text) {n : ℕ} (words : List Name) (many : n ≡ length words) {kept : Bool} (q : kept ≡ (leb 2 (end - start) && ltb n 26)) where
-  tested : {b : Bool} → kept ≡ b → (leb 2 (length (part text start end)) && ltb (length words) 26) ≡ b
-  tested z = rw (part_length text start end e) (ap (λ (m : ℕ). leb 2 (end - start) && ltb m 26) (sym many) ∙ sym q ∙ z)
+module _ (text : Text) (s : Span) (e : s.start + s.length ≤ length text) {n : ℕ} (words : List Name) (many : n ≡ length words) {kept : Bool} (q : kept ≡ (leb 2 s.length && ltb n 26)) where
+  tested : {b : Bool} → kept ≡ b → (leb 2 (length (spanned text s)) && ltb (length words) 26) ≡ b
+  tested z = let k : (s.start + s.length) - s.start ≡ s.length = omega arith in rw (part_length text s.start (s.start + s.length) e, k) (ap (λ (m : ℕ). leb 2 s.length && ltb m 26) (sym many) ∙ sym q ∙ z)
 
   -- THE COUNT
-  pub count_same : kept ≡ false → n ≡ length (keep (part text start end) words)
-  count_same z = many ∙ ap length (sym (keep_not (part text start end) words (tested z)))
+  pub count_same : kept ≡ false → n ≡ length (keep (spanned text s) words)
+  count_same z = many ∙ ap length (sym (keep_not (spanned text s) words (tested z)))
 
-  pub count_added : kept ≡ true → n + 1 ≡ length (keep (part text start end) words)
-  count_added z = rw (keep_adds (part text start end) words (tested z), length-append) (omega arith)
+  pub count_added : kept ≡ true → n + 1 ≡ length (keep (spanned text s) words)
+  count_added z = rw (keep_adds (spanned text s) words (tested z), length-append) (omega arith)
 
-module _ (text : Text) (start end : ℕ) (l : start ≤ end) (e : end ≤ length text) {w : Words} {words : List Name} (g : Lists text w words) {kept : Bool} (q : kept ≡ (leb 2 (end - start) && ltb w.count 26)) where
+module _ (text : Text) (s : Span) (e : s.start + s.length ≤ length text) {w : Words} {words : List Name} (g : Lists text w words) {kept : Bool} (q : kept ≡ (leb 2 s.length && ltb w.count 26)) where
   -- THE TABLE
   pub known_many : w.count ≡ length words
   known_many = table_length text w ∙ ap length g.is
 
-  pub lists_same : kept ≡ false → Lists text w (keep (part text start end) words)
-  lists_same z = record { is = g.is ∙ sym (keep_not (part text start end) words (tested text start end l e words known_many q z)); fitting = g.fitting }
+  pub lists_same : kept ≡ false → Lists text w (keep (spanned text s) words)
+  lists_same z = record { is = g.is ∙ sym (keep_not (spanned text s) words (tested text s e words known_many q z)); fitting = g.fitting }
 
-  module _ (r : Words) (s : Span) (is : (r.count ≡ w.count + 1) × (r.spans ≡ set w.spans w.count s)) (at : (s.start ≡ start) × (s.length ≡ end - start)) where
-    added : w.count < length w.spans → table text r ≡ table text w ++ (part text start end ∷ [])
+  module _ (r : Words) (is : (r.count ≡ w.count + 1) × (r.spans ≡ set w.spans w.count s)) where
+    added : w.count < length w.spans → table text r ≡ table text w ++ (spanned text s ∷ [])
     added room =
         ap (words_of text r.spans) is.0 ∙ ap (λ (xs : List Span). words_of text xs (w.count + 1)) is.1
         ∙ words_of_stored text w.spans w.count s room
-        ∙ ap₂ (λ (i j : ℕ). table text w ++ (take j (drop i text) ∷ [])) at.0 at.1
+        ∙ ap (λ (j : ℕ). table text w ++ (take j (drop s.start text) ∷ [])) whole
+      where
+        whole : s.length ≡ (s.start + s.length) - s.start
+        whole = omega arith
 
-    pub lists_stored : kept ≡ true → w.count < length w.spans → Lists text r (keep (part text start end) words)
+    pub lists_stored : kept ≡ true → w.count < length w.spans → Lists text r (keep (spanned text s) words)
     lists_stored z room =
         let n = w.count in
-        let t = (and-eq-true_iff (leb 2 (end - start)) (ltb n 26)).0 (sym q ∙ z) in
-        let h : 2 ≤ end - start = leb-true 2 (end - start) t.0 in
+        let t = (and-eq-true_iff (leb 2 s.length) (ltb n 26)).0 (sym q ∙ z) in
+        let h : 2 ≤ s.length = leb-true 2 s.length t.0 in
         let k : n < 26 = ltb-true n 26 t.1 in
         let other : (i : ℕ) → i < n → i ≡ n → ⊥ = λ i p z. omega arith in
         let here : span_at r.spans n ≡ s = rw is.1 (get_or-set_same w.spans n s (record { start = 0; length = 0 }) room) in
         let there : (i : ℕ) → i < n → span_at r.spans i ≡ span_at w.spans i = λ i p. rw is.1 (get_or-set_other w.spans n i s (record { start = 0; length = 0 }) (other i p)) in
         record {
-          is = added room ∙ ap (λ (ws : List Name). ws ++ (part text start end ∷ [])) g.is ∙ sym (keep_adds (part text start end) words (tested text start end l e words known_many q z));
+          is = added room ∙ ap (λ (ws : List Name). ws ++ (spanned text s ∷ [])) g.is ∙ sym (keep_adds (spanned text s) words (tested text s e words known_many q z));
           fitting = record {
             few = omega (arith, is.0);
-            inside = λ i p. below_more (λ (i : ℕ). (span_at r.spans i).start + (span_at r.spans i).length ≤ length text) n (λ i p. rw (there i p) (g.fitting.inside i p)) (rw (here, at.0, at.1) (omega arith)) i (omega (arith, is.0));
-            long = λ i p. below_more (λ (i : ℕ). 2 ≤ (span_at r.spans i).length) n (λ i p. rw (there i p) (g.fitting.long i p)) (rw (here, at.1) h) i (omega (arith, is.0));
+            inside = λ i p. below_more (λ (i : ℕ). (span_at r.spans i).start + (span_at r.spans i).length ≤ length text) n (λ i p. rw (there i p) (g.fitting.inside i p)) (rw here e) i (omega (arith, is.0));
+            long = λ i p. below_more (λ (i : ℕ). 2 ≤ (span_at r.spans i).length) n (λ i p. rw (there i p) (g.fitting.long i p)) (rw here h) i (omega (arith, is.0));
           };
         }

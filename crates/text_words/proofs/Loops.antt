@@ -1,16 +1,13 @@
 -- The loop of `note`, over what is known of the words. Assumes nothing.
-use Rattle.std.specs.Prelude.{if◌then◌else◌}
 use mathlib.Core.Path.{◌≡◌, refl, sym, ap, ◌∙◌, subst}
-use mathlib.Core.Bool.{Bool, true, false}
-use mathlib.Core.List.{List, []}
+use mathlib.Core.List.{List, [], ◌∷◌}
 use Prim.Native.Nat.{ℕ, ◌+◌, ◌≤◌, ◌<◌}
 use native.Mathlib.Omega.{arith}
 use lib.ListN.{length, get_or}
 use Rattle.definition.specs.Base.{Name}
 use Rattle.definition.specs.Text.{Text}
 use Rattle.definition.specs.Words.{keep, note_words_from, note_words}
-use Rattle.text_words.specs.Table.{part, Turns}
-use Rattle.text_words.specs.declared.Boundary.{Boundary}
+use Rattle.text_words.specs.Table.{part, Ends, Grows}
 use Rattle.text_words.proofs.Parts.{part_none, part_cons}
 use Rattle.text_words.proofs.Noting.{note_end}
 
@@ -33,27 +30,26 @@ module _ {S : Type 0} (stands : S → List Name → Type 0) (text : Text) (from 
     words = λ words h. record { found = words; met = h; same = let z : part text from from ≡ [] = part_none text from in rw z };
   }
 
-  module _ {first known : S} {start previous at : ℕ} (g : Noting first known start previous at) (inside : at < to) (fits : to ≤ length text) {r : Boundary} (t : Turns start at previous (get_or text at 0) r) where
-    turned : (found : List Name) → note_words_from (part text start at) previous (part text at to) found
-        ≡ note_words_from (part text r.start (at + 1)) (get_or text at 0) (part text (at + 1) to) (if r.ended then keep (part text start at) found else found)
-    turned found =
-        let i : at < length text = omega arith in
-        ap (λ (u : Text). note_words_from (part text start at) previous u found) (part_cons text at to inside fits) ∙ t.noted text (part text (at + 1) to) found i refl
+  module _ {first known : S} {start previous at : ℕ} (g : Noting first known start previous at) (inside : at < to) (fits : to ≤ length text) where
+    step : (found : List Name) → note_words_from (part text start at) previous (part text at to) found ≡ note_words_from (part text start at) previous (get_or text at 0 ∷ part text (at + 1) to) found
+    step found = ap (λ (u : Text). note_words_from (part text start at) previous u found) (part_cons text at to inside fits)
 
-    pub noting_kept : {after : S} → r.ended ≡ true → ((words : List Name) → stands known words → stands after (keep (part text start at) words)) → Noting first after r.start (get_or text at 0) (at + 1)
-    noting_kept e h = record {
+    pub noting_kept : {next : ℕ} → Ends start at previous (get_or text at 0) next → {after : S} → ((words : List Name) → stands known words → stands after (keep (part text start at) words)) → Noting first after next (get_or text at 0) (at + 1)
+    noting_kept t h = record {
       opened = t.most;
       words = λ words k.
           let m = g.words words k in
-          record { found = keep (part text start at) m.found; met = h m.found m.met; same = m.same ∙ turned m.found ∙ ap (λ (d : Bool). note_words_from (part text r.start (at + 1)) (get_or text at 0) (part text (at + 1) to) (if d then keep (part text start at) m.found else m.found)) e };
+          let i : at < length text = omega arith in
+          record { found = keep (part text start at) m.found; met = h m.found m.met; same = m.same ∙ step m.found ∙ t.noted text (part text (at + 1) to) m.found i refl };
     }
 
-    pub noting_open : r.ended ≡ false → Noting first known r.start (get_or text at 0) (at + 1)
-    noting_open e = record {
-      opened = t.most;
+    pub noting_open : Grows start at previous (get_or text at 0) → Noting first known start (get_or text at 0) (at + 1)
+    noting_open t = record {
+      opened = omega (arith, g.opened);
       words = λ words k.
           let m = g.words words k in
-          record { found = m.found; met = m.met; same = m.same ∙ turned m.found ∙ ap (λ (d : Bool). note_words_from (part text r.start (at + 1)) (get_or text at 0) (part text (at + 1) to) (if d then keep (part text start at) m.found else m.found)) e };
+          let i : at < length text = omega arith in
+          record { found = m.found; met = m.met; same = m.same ∙ step m.found ∙ t.noted text (part text (at + 1) to) m.found i refl };
     }
 
   pub noting_last : {first known after : S} {start previous at : ℕ} → Noting first known start previous at → at ≡ to →

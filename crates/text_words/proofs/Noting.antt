@@ -11,12 +11,8 @@ use Rattle.definition.specs.Base.{Name, is, upper}
 use Rattle.definition.specs.Text.{Text}
 use Rattle.definition.specs.Words.{keep, starts, note_words_from}
 use Rattle.text_cursor.proofs.Steps.{differ}
-use Rattle.text_words.specs.Table.{part, Turns}
-use Rattle.text_words.specs.declared.Boundary.{Boundary}
+use Rattle.text_words.specs.Table.{part, Ends, Grows}
 use Rattle.text_words.proofs.Parts.{part_none, part_snoc, part_one, part_length}
-
-abbrev pub boundary : Bool → ℕ → Boundary
-boundary e s = record { ended = e; start = s }
 
 module _ (p c : ℕ) (t : Text) where
   note_starts : (ws : List Name) → starts c ≡ true → note_words_from [] p (c ∷ t) ws ≡ note_words_from (c ∷ []) c t ws
@@ -68,43 +64,39 @@ past_capitals b h =
     let l : 90 < b = omega arith in
     rw (lt-leb b 90 l) (and-false (leb 65 b))
 
-module _ (at p b : ℕ) where
-  pub opens : starts b ≡ true → Turns at at p b (boundary false at)
-  opens e = record {
-    least = omega arith;
-    most = omega arith;
-    noted = λ text t ws h k. rw (part_none text at, part_one text at h, k) (note_starts p b t ws e);
-  }
+-- a word of no bytes is not kept
+keep_none : (ws : List Name) → keep [] ws ≡ ws
+unfolding keep
+keep_none ws = refl
 
-  pub skips : starts b ≡ false → Turns at at p b (boundary false (at + 1))
+module _ (at p b : ℕ) where
+  pub opens : starts b ≡ true → Grows at at p b
+  opens e = record { noted = λ text t ws h k. rw (part_none text at, part_one text at h, k) (note_starts p b t ws e) }
+
+  pub skips : starts b ≡ false → Ends at at p b (at + 1)
   skips e = record {
-    least = omega arith;
     most = omega arith;
-    noted = λ text t ws h k. rw (part_none text at, part_none text (at + 1)) (note_skips p b t ws e);
+    noted = λ text t ws h k. rw (part_none text at, part_none text (at + 1), keep_none ws) (note_skips p b t ws e);
   }
 
   module _ (start : ℕ) (l : start < at) where
     long : (text : Text) → at < length text → 0 < length (part text start at)
     long text h = let k : at ≤ length text = omega arith in rw (part_length text start at k) (omega arith)
 
-    pub ends : is "_" b ≡ true → Turns start at p b (boundary true (at + 1))
+    pub ends : is "_" b ≡ true → Ends start at p b (at + 1)
     ends e = record {
-      least = omega arith;
       most = omega arith;
       noted = λ text t ws h k. rw (part_none text (at + 1)) (note_ends p b t (part text start at) ws (long text h) e);
     }
 
     module _ (e : is "_" b ≡ false) where
-      pub splits : (not (upper p) && upper b) ≡ true → Turns start at p b (boundary true at)
+      pub splits : (not (upper p) && upper b) ≡ true → Ends start at p b at
       splits k = record {
-        least = omega arith;
         most = omega arith;
         noted = λ text t ws h q. rw (part_one text at h, q) (note_splits p b t (part text start at) ws (long text h) e k);
       }
 
-      pub grows : (not (upper p) && upper b) ≡ false → Turns start at p b (boundary false start)
+      pub grows : (not (upper p) && upper b) ≡ false → Grows start at p b
       grows k = record {
-        least = omega arith;
-        most = omega arith;
         noted = λ text t ws h q. let m : start ≤ at = omega arith in rw (part_snoc text start at m h, q) (note_grows p b t (part text start at) ws (long text h) e k);
       }

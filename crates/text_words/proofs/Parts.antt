@@ -5,13 +5,18 @@ use Prim.Native.Nat.{ℕ, suc, ◌+◌, ◌-◌, ◌≤◌, ◌<◌}
 use native.Mathlib.Omega.{arith}
 use lib.ListN.{length, get_or, drop, length-drop}
 use lib.Seq.{take-suc, drop-cons, get_or-drop}
-pub use Rattle.text_parts.proofs.Parts.{part_length}
+pub use Rattle.text_cursor.proofs.Parts.{part_length}
 use Rattle.definition.specs.Text.{Text}
-use Rattle.text_words.specs.Table.{part}
+use Rattle.text_words.specs.Table.{part, spanned}
+use Rattle.text_words.specs.declared.spans.Span.{Span}
 
 module _ (text : Text) where
   pub part_none : (at : ℕ) → part text at at ≡ []
   part_none at = let z : at - at ≡ 0 = omega arith in rw z
+
+  -- a part that is given by its ends
+  pub part_spanned : {s : Span} {from to : ℕ} → (s.start ≡ from) × (s.length ≡ to - from) → from ≤ to → spanned text s ≡ part text from to
+  part_spanned {s} {from} {to} e l = let z : s.start + s.length ≡ to = omega (arith, e.0, e.1) in rw (z, e.0)
 
   pub part_snoc : (from at : ℕ) → from ≤ at → at < length text → part text from (at + 1) ≡ part text from at ++ (get_or text at 0 ∷ [])
   part_snoc from at l h =

@@ -1,12 +1,11 @@
 -- The word table: what its numbers say about a text (01, "Words"). Assumes nothing.
-use Rattle.std.specs.Prelude.{◌≡◌, List, [], ◌∷◌, ◌++◌, ℕ, zero, suc, ◌+◌, ◌≤◌, ◌<◌, length, get_or, take, drop, if◌then◌else◌}
+use Rattle.std.specs.Prelude.{◌≡◌, List, [], ◌∷◌, ◌++◌, ℕ, zero, suc, ◌+◌, ◌≤◌, ◌<◌, length, get_or, take, drop, Option, Some, None}
 use Rattle.definition.specs.Base.{Name}
 use Rattle.definition.specs.Text.{Text}
 use Rattle.definition.specs.Words as W
-pub use Rattle.text_parts.specs.Copied.{part}
+pub use Rattle.text_cursor.specs.Part.{part}
 use Rattle.text_words.specs.declared.spans.Span.{Span}
 use Rattle.text_words.specs.declared.spans.Spans.{Spans}
-use Rattle.text_words.specs.declared.Boundary.{Boundary}
 
 abbrev pub Words : Type 0
 Words = Spans W.most_words
@@ -14,6 +13,10 @@ Words = Spans W.most_words
 -- the i-th of these parts; past the last, a part of no bytes
 abbrev pub span_at : List Span → ℕ → Span
 span_at spans i = get_or spans i (record { start = 0; length = 0 })
+
+-- the bytes of a part
+abbrev pub spanned : Text → Span → Name
+spanned text s = part text s.start (s.start + s.length)
 
 -- the i-th word
 abbrev pub word_of : Text → List Span → ℕ → Name
@@ -39,10 +42,17 @@ pub record Lists (text : Text) (w : Words) (words : List Name) : Type 0 where
   pub fitting : Fitting text w
 
 -- The byte b is at a place, after the byte previous, and the open word there begins at start (at
--- the place: none is open). After b the open word begins at r.start, and the one before it has
--- ended if r.ended
-pub record Turns (start at previous b : ℕ) (r : Boundary) : Type 0 where
-  pub least : start ≤ r.start
-  pub most : r.start ≤ at + 1
+-- the place: it has no byte yet). After b the next word begins at `next`, and the open one has ended
+pub record Ends (start at previous b next : ℕ) : Type 0 where
+  pub most : next ≤ at + 1
   pub noted : (text t : Text) (words : List Name) → at < length text → get_or text at 0 ≡ b →
-      W.note_words_from (part text start at) previous (b ∷ t) words ≡ W.note_words_from (part text r.start (at + 1)) b t (if r.ended then W.keep (part text start at) words else words)
+      W.note_words_from (part text start at) previous (b ∷ t) words ≡ W.note_words_from (part text next (at + 1)) b t (W.keep (part text start at) words)
+
+-- or it goes on
+pub record Grows (start at previous b : ℕ) : Type 0 where
+  pub noted : (text t : Text) (words : List Name) → at < length text → get_or text at 0 ≡ b →
+      W.note_words_from (part text start at) previous (b ∷ t) words ≡ W.note_words_from (part text start (at + 1)) b t words
+
+abbrev pub Turns : (start at previous b : ℕ) → Option ℕ → Type 0
+Turns start at previous b (Some next) = Ends start at previous b next
+Turns start at previous b None = Grows start at previous b

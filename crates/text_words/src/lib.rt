@@ -6,11 +6,11 @@ pub mod spans;
 // Literals whose words are not noted yet.
 pub mod waiting;
 
-ghost use Rattle.std.specs.Prelude.{◌≡◌, ◌&&◌, leb, ltb, ◌+◌, ◌-◌, ◌≤◌, ◌<◌, List, length};
+ghost use Rattle.std.specs.Prelude.{◌≡◌, ◌&&◌, leb, ltb, ◌+◌, ◌≤◌, ◌<◌, List, length};
 ghost use Rattle.definition.specs.Base.{Name};
 ghost use Rattle.definition.specs.Text.{Text};
 ghost use Rattle.definition.specs.Words as W;
-ghost use Rattle.text_words.specs.Table.{part, Lists, Turns};
+ghost use Rattle.text_words.specs.Table.{part, spanned, Lists, Turns};
 
 use crate::spans::{Span, Spans};
 use text_cursor::{is_digit, is_upper};
@@ -27,22 +27,20 @@ pub trait Known {
     fn count(&self) -> usize
         ensures { (text : Text) (words : List Name) → stands text self.now words → result ≡ length words };
 
-    // Keeps the word text[start..end], if it has 2 bytes or more and there is room.
-    fn keep(&mut self, start: usize, end: usize)
-        requires { (start ≤ end) × (end ≤ 65535) }
-        ensures { (text : Text) (words : List Name) → end ≤ length text → stands text self.old words → stands text self.new (W.keep (part text start end) words) };
+    // Keeps a word, if it has 2 bytes or more and there is room.
+    fn keep(&mut self, word: Span)
+        ensures { (text : Text) (words : List Name) → word.start + word.length ≤ length text → stands text self.old words → stands text self.new (W.keep (spanned text word) words) };
 }
 
 const MOST_WORDS: usize = 26;
 
-const SHORTEST_WORD: usize = 2;
+const SHORTEST_WORD: u16 = 2;
 
-// Whether one more word text[start..end] is kept.
-fn is_kept(count: usize, start: usize, end: usize) -> bool
-    requires { start ≤ end }
-    ensures { result ≡ (leb 2 (end - start) && ltb count 26) }
+// Whether one more word is kept.
+fn is_kept(count: usize, word: Span) -> bool
+    ensures { result ≡ (leb 2 word.length && ltb count 26) }
 {
-    SHORTEST_WORD <= end - start && count < MOST_WORDS
+    SHORTEST_WORD <= word.length && count < MOST_WORDS
 }
 
 impl Known for Words {
@@ -52,9 +50,9 @@ impl Known for Words {
         self.len()
     }
 
-    fn keep(&mut self, start: usize, end: usize) {
-        if is_kept(self.len(), start, end) {
-            self.push(Span::new(start, end));
+    fn keep(&mut self, word: Span) {
+        if is_kept(self.len(), word) {
+            self.push(word);
         }
     }
 }
@@ -66,8 +64,8 @@ impl Known for usize {
         *self
     }
 
-    fn keep(&mut self, start: usize, end: usize) {
-        if is_kept(*self, start, end) {
+    fn keep(&mut self, word: Span) {
+        if is_kept(*self, word) {
             *self += 1;
         }
     }
@@ -80,52 +78,32 @@ fn starts_word(b: u8) -> bool
     !is_digit(b) && b != b'_'
 }
 
-// The effect of a byte on the open word.
-#[derive(Clone, Copy)]
-struct Boundary {
-    pub ended: bool,
-    pub start: usize,
-}
-
-// One turn of the loop below: the byte b at a place, after the byte `previous`. The open word
-// begins at `start`.
-fn turn(start: usize, at: usize, previous: u8, b: u8) -> Boundary
+// Where the next word begins, if the byte b at a place ends the open one, which begins at `start`:
+// `_` ends it, a capital after another byte begins the next, and no word begins with a digit.
+// Before b is the byte `previous`.
+fn next_word(start: usize, at: usize, previous: u8, b: u8) -> Option<usize>
     requires { (start ≤ at) × (at < 65535) }
     ensures { Turns start at previous b result }
 {
     if start == at {
-        let start = if starts_word(b) { at } else { at + 1 };
-        return Boundary {
-            ended: false,
-            start,
-        };
+        return if starts_word(b) { None } else { Some(at + 1) };
     }
     // neither a capital nor `_`: most bytes
     if b'_' < b {
-        return Boundary {
-            ended: false,
-            start,
-        };
+        return None;
     }
     if b == b'_' {
-        return Boundary {
-            ended: true,
-            start: at + 1,
-        };
+        return Some(at + 1);
     }
     if !is_upper(previous) && is_upper(b) {
-        return Boundary {
-            ended: true,
-            start: at,
-        };
+        return Some(at);
     }
-    Boundary {
-        ended: false,
-        start,
-    }
+    None
 }
 
 // Notes the words of text[from..to].
+// Kept: the part goes by its ends, as a literal has them, and not as a `Span`, which the caller
+// would have to make and this function to take apart.
 pub fn note<K: Known>(text: &[u8], from: usize, to: usize, known: &mut K)
     requires { (from ≤ to) × (to ≤ length text.now) × (length text.now ≤ 65535) }
     ensures { (words : List Name) → K.stands text.now known.old words → K.stands text.now known.new (W.note_words (part text.now from to) words) }
@@ -134,12 +112,11 @@ pub fn note<K: Known>(text: &[u8], from: usize, to: usize, known: &mut K)
     let mut previous = 0;
     for at in from..to {
         let b = text[at];
-        let next = turn(start, at, previous, b);
-        if next.ended {
-            known.keep(start, at);
+        if let Some(next) = next_word(start, at, previous, b) {
+            known.keep(Span::new(start, at));
+            start = next;
         }
-        start = next.start;
         previous = b;
     }
-    known.keep(start, to);
+    known.keep(Span::new(start, to));
 }

@@ -3,7 +3,7 @@ ghost use Rattle.std.specs.Prelude.{◌≡◌, ◌+◌, ◌-◌, ◌≤◌, ◌<
 ghost use Rattle.text_words.specs.Table.{span_at};
 
 // Where a part starts, and how long it is.
-#[derive(Clone, Copy, Debug, PartialEq, Eq)]
+#[derive(Clone, Copy)]
 pub struct Span {
     pub start: u16,
     pub length: u16,
@@ -37,6 +37,7 @@ impl Span {
 }
 
 // At most N parts, in order.
+// Kept: there is no heap, so the parts are in an array of fixed size.
 #[derive(Clone, Copy)]
 pub struct Spans<const N: usize> {
     spans: [Span; N],

@@ -13,6 +13,7 @@ use crate::{Known, note};
 pub type Waiting = Spans<16>;
 
 // Appends the literal text[from..to].
+// Kept: a literal goes by its ends where it is read, and as a `Span` where it is kept.
 pub fn wait(q: &mut Waiting, from: usize, to: usize)
     requires { (q.old.count < 16) × (from ≤ to) × (to ≤ 65535) }
     ensures { (text : Text) → to ≤ length text → Waits text q.old → More text from to q.old q.new }

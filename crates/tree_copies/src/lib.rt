@@ -15,13 +15,11 @@ ghost use Rattle.tree_copies.specs.Copies.{Pushes, Copied, Recalled, ReadyTree, 
 
 use definition::{Leaf, NominalKind, Refusal};
 use machine::kinds::{Kind, Want};
+use operator_names::Name;
 use tree_nodes::fixed_number;
 use tree_nodes::leave::{generic_param, standard_nominal, wrap};
 use tree_nodes::take::pop_if;
-use tree_records::{Record, Trees};
-
-// The number of the fixed name Optional.
-const OPTIONAL: usize = 28;
+use tree_records::{Record, SEEN, Trees};
 
 // Makes a node of one record without a child, and returns its place. It has one number, or none.
 fn lone(trees: &mut Trees, kind: Kind, a: u32) -> usize
@@ -67,6 +65,8 @@ pub fn push_leaf(trees: &mut Trees, l: Leaf)
 }
 
 // Pushes a place that many times.
+// Kept: `check_entries` has `push_copies` and `push_charged`, and `check_perform` has `recall`, on
+// entries. These push places of records; what both share is `Budget::charge_copies`.
 fn push_copies(trees: &mut Trees, times: usize, place: usize)
     requires inside { Inside trees.old.ws.now trees.old.n trees.old.state (3 * times) times 0 }
     requires place_bound { place < 2 ^ 32 }
@@ -110,7 +110,7 @@ pub fn recall(trees: &mut Trees, times: usize, index: usize) -> Result<(), Refus
     if trees.state.seen <= index {
         return Err(Refusal::Spelling);
     }
-    let place = trees.ws[61 * trees.n + index] as usize;
+    let place = trees.ws[SEEN * trees.n + index] as usize;
     copied(trees, times, place)
 }
 
@@ -121,7 +121,7 @@ fn optional_of(trees: &mut Trees, repeat: usize, place: usize) -> Result<(), Ref
     ensures stays { Stays trees.old trees.new }
     ensures optioned { Optioned trees.old.ws.now trees.new.ws.now trees.old.n trees.old.state repeat place (step_of result trees.new.state) }
 {
-    let base = standard_nominal(trees, NominalKind::Enum, OPTIONAL);
+    let base = standard_nominal(trees, NominalKind::Enum, Name::Optional as usize);
     let cell = trees.grow(Record {
         a: Record::NO_LABEL,
         b: place as u32,

@@ -168,6 +168,3 @@ place_of nm w base top (x ∷ xs) d j r l = go (λ (k : j < r.0). place_of nm w 
 
 pub stack_place : {w : List ℕ} {N : ℕ} {st : State} (j : ℕ) → Ready w N st nothing_spare → j < st.depth → get_or w (60 * N + j) 0 < st.top
 stack_place {w} {N} {st} j r l = place_of r.names w (60 * N) st.top r.machine.stack st.depth j r.holds.stack l
-
-pub at_place : {p q top : ℕ} → p ≡ q → q < top → p < top
-at_place e l = rw e l

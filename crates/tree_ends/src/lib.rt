@@ -6,24 +6,25 @@ ghost use Rattle.std.specs.Prelude.{map, reverse};
 ghost use Rattle.definition.specs.Calls as Calls;
 ghost use Rattle.definition.specs.Node.{entry_of};
 ghost use Rattle.definition.specs.Perform as R;
-ghost use Rattle.tree_records.specs.Holds.{Names, Holds, Ready};
+ghost use Rattle.tree_records.specs.Holds.{Names, Holds};
+ghost use Rattle.tree_records.specs.Trees.{Has};
 ghost use Rattle.machine.specs.RunEnds.{Writing};
 ghost use Rattle.tree_nodes.specs.Gives.{nothing_spare};
 ghost use Rattle.tree_ends.specs.Ends.{Singles};
 
 use machine::runs::{Final, takes};
-use tree_records::{Record, State, field, wide};
+use tree_records::{Record, STACK, Trees};
 
 // Returns the place of the only tree that is left, if its kind is accepted.
-pub fn single(ws: &[u32], n: usize, st: State, what: Final) -> Option<usize>
-    requires { Ready ws.now n st nothing_spare }
-    ensures { Singles ws.now n st what result }
+pub fn single(trees: &Trees, what: Final) -> Option<usize>
+    requires { Has trees.now nothing_spare }
+    ensures { Singles trees.now.ws.now trees.now.n trees.now.state what result }
 {
-    if st.depth != 1 {
+    if trees.state.depth != 1 {
         return None;
     }
-    let place = wide(ws[60 * n]);
-    if !takes(what, field(ws, place, Record::KIND)) {
+    let place = trees.ws[STACK * trees.n] as usize;
+    if !takes(what, trees.field(place, Record::KIND)) {
         return None;
     }
     Some(place)
@@ -31,19 +32,19 @@ pub fn single(ws: &[u32], n: usize, st: State, what: Final) -> Option<usize>
 
 // Writes the entries of the stack, three numbers each, in the order in which they were pushed: the
 // kind, size and count of each tree.
-pub fn write_stack(ws: &[u32], n: usize, st: State, out: &mut [u32]) -> Option<usize>
-    requires { Ready ws.now n st nothing_spare }
-    ensures { (nm : Names) (m : R.Demangler) → Holds nm ws.now n st nothing_spare m → Writing (Calls.entry_numbers (map entry_of (reverse m.stack))) out.old out.new result }
+pub fn write_stack(trees: &Trees, out: &mut [u32]) -> Option<usize>
+    requires { Has trees.now nothing_spare }
+    ensures { (nm : Names) (m : R.Demangler) → Holds nm trees.now.ws.now trees.now.n trees.now.state nothing_spare m → Writing (Calls.entry_numbers (map entry_of (reverse m.stack))) out.old out.new result }
 {
-    let numbers = 3 * st.depth;
+    let numbers = 3 * trees.state.depth;
     if out.len() < numbers {
         return None;
     }
-    for j in 0..st.depth {
-        let place = wide(ws[60 * n + j]);
-        out[3 * j] = field(ws, place, Record::KIND);
-        out[3 * j + 1] = field(ws, place, Record::SIZE);
-        out[3 * j + 2] = field(ws, place, Record::COUNT);
+    for j in 0..trees.state.depth {
+        let place = trees.ws[STACK * trees.n + j] as usize;
+        out[3 * j] = trees.field(place, Record::KIND);
+        out[3 * j + 1] = trees.field(place, Record::SIZE);
+        out[3 * j + 2] = trees.field(place, Record::COUNT);
     }
     Some(numbers)
 }

@@ -15,7 +15,7 @@ use tree_records::{Record, Trees};
 
 // The labels of a function, as its record has them: the cell of the first, and their number plus 1.
 // Both are 0 if the function has no labels of its own.
-#[derive(Clone, Copy, Debug, PartialEq, Eq)]
+#[derive(Clone, Copy)]
 pub struct Labelled {
     pub first: u32,
     pub number: u32,

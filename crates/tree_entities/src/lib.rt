@@ -19,9 +19,9 @@ use crate::labels::labels;
 use definition::{Accessor, Refusal};
 use machine::kinds::{Kind, Want};
 use tree_nodes::build::function_type;
+use tree_nodes::fixed_number;
 use tree_nodes::leave::wrap;
 use tree_nodes::take::{context, pop_if, pop_name, took, try_pop};
-use tree_nodes::{fixed_number, flag};
 use tree_parts::entity::{leave_variable, push_entity, push_over};
 use tree_records::{Record, Trees};
 
@@ -32,7 +32,7 @@ pub fn deinitializer(trees: &mut Trees, deallocating: bool) -> Result<(), Refusa
     ensures operates { Operates (one_over R.context (λ _. Deinitializer deallocating)) trees.old trees.new result }
 {
     let home = context(trees)?;
-    push_over(trees, Kind::Deinitializer, flag(deallocating), home);
+    push_over(trees, Kind::Deinitializer, u32::from(deallocating), home);
     Ok(())
 }
 
@@ -143,7 +143,7 @@ pub fn initializer(trees: &mut Trees, allocating: bool) -> Result<(), Refusal>
     let home = context(trees)?;
     let made = Record {
         kind: Kind::Initializer,
-        a: flag(allocating),
+        a: u32::from(allocating),
         d: labelled.first,
         e: labelled.number,
         ..Record::ZERO

@@ -1,5 +1,6 @@
 -- What was tried, and what follows it, whether it was there or not.
-use Rattle.std.proofs.Common.{ℕ, Bool, Option, Some, None, Result, Ok, Err, eqb}
+use mir.Val.{bool_byte as from_bool}
+use Rattle.std.proofs.Common.{◌≡◌, refl, ◌∙◌, true, ℕ, Bool, Option, Some, None, Result, Ok, Err, eqb}
 use Rattle.std.specs.Option.{is_some}
 use Rattle.std.proofs.Math.Option as Math
 use Rattle.std.specs.Prelude.{if◌then◌else◌, false}
@@ -9,6 +10,7 @@ use Rattle.definition.specs.Kind as K
 use Rattle.definition.specs.Perform.{Run}
 use Rattle.definition.specs.Perform as R
 use Rattle.definition.specs.declared.Refusal.{Refusal}
+use Rattle.tree_records.specs.Lies.{flag}
 use Rattle.tree_records.specs.Trees.{Reads, Has}
 use Rattle.tree_records.specs.Holds.{Spare}
 use Rattle.tree_records.specs.declared.Trees.{Trees}
@@ -57,3 +59,11 @@ function_type_of {t} {t₁} {t₂} {t₃} t₄ y a (Ok p) h s₁ k₁ s₂ k₂ 
     let u₃ = reads_then u₂ s₃ in
     function_built t₄.ws.now {t = record { taken = y; next = t₂.state }} {y = record { taken = a; next = t₃.state }} k₁ (rw (s₁.slice, s₁.ceiling) at k₂) (rw (u₂.slice, u₂.ceiling) at k₃) (rw (u₃.slice, u₃.ceiling) at b)
 function_type_of {t} {t₁} {t₂} {t₃} t₄ y a (Err f) h s₁ k₁ s₂ k₂ s₃ k₃ b = function_type_refused y a h s₁ k₁ s₂ k₂ s₃ k₃ b
+
+-- the number of a `bool` in a record
+flag_is : (b : Bool) → from_bool b ≡ flag b
+flag_is true = refl
+flag_is false = refl
+
+pub flagged : (b : Bool) {y : ℕ} → y ≡ from_bool b → y ≡ flag b
+flagged b e = e ∙ flag_is b

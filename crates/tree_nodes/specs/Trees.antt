@@ -40,6 +40,11 @@ abbrev pub Tries : Run (Math.Option Node) → (t t' : Trees) → Option ℕ → 
 Tries f t t' (Some p) = GivesIf f t.ws.now t.n t.state p t'.state
 Tries f t t' None = Leaves f t t'
 
+-- the same, where the top is gone if it is not wanted
+abbrev pub Tried : Run (Math.Option Node) → (t t' : Trees) → Result ℕ Refusal → Type 0
+Tried f t t' (Ok p) = GivesIf f t.ws.now t.n t.state p t'.state
+Tried f t t' (Err r) = (nm : Names) (sp : Spare) (m : Demangler) → Holds nm t.ws.now t.n t.state sp m → f m ≡ ok Math.none m
+
 abbrev pub Marks : Run Bool → (t t' : Trees) → Bool → Type 0
 Marks f t t' b = G.Marks f t.ws.now t.n t.state (record { taken = b; next = t'.state })
 

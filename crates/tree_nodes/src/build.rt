@@ -8,7 +8,6 @@ ghost use Rattle.tree_nodes.specs.Gives as Gives;
 ghost use Rattle.tree_nodes.specs.Gives.{spare};
 ghost use Rattle.tree_nodes.specs.Trees.{Builds};
 
-use crate::flag;
 use crate::leave::wrap;
 use crate::take::{context, function_params, pop_if, protocol, took};
 use definition::Refusal;
@@ -16,6 +15,8 @@ use machine::kinds::{Kind, Want};
 use tree_records::{Record, Trees};
 
 // Returns the number of parameters of a function type whose parameters are at a place.
+// Kept: `arity_of` of `tree_entities` has this shape with another kind and another number for the
+// other kinds; one function of both would take the kind and that number, and say less by its name.
 fn param_count(trees: &Trees, place: usize) -> u32
     requires { 8 * place + 8 ≤ length trees.now.ws.now }
     ensures { result ≡ (if eqb (at trees.now.ws.now place 0) K.tuple then at trees.now.ws.now place 2 else 1) }
@@ -27,6 +28,7 @@ fn param_count(trees: &Trees, place: usize) -> u32
 }
 
 // Takes the parameters and the result of a function type, after its effects.
+// Kept: no comparison; it is the definition's step between the effects and the node.
 fn between(trees: &mut Trees, throws: bool, is_async: bool) -> Result<usize, Refusal>
     requires { Has trees.old (spare 0 0 1 0) }
     ensures stays { Stays trees.old trees.new }
@@ -42,8 +44,8 @@ fn between(trees: &mut Trees, throws: bool, is_async: bool) -> Result<usize, Ref
         count,
         a: params as u32,
         b: output as u32,
-        c: flag(throws),
-        d: flag(is_async),
+        c: u32::from(throws),
+        d: u32::from(is_async),
         ..Record::ZERO
     }))
 }

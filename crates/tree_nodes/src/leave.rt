@@ -11,9 +11,10 @@ ghost use Rattle.tree_records.specs.Trees.{Stays, Reads, numbers};
 ghost use Rattle.tree_nodes.specs.Gives.{Left, Kept};
 ghost use Rattle.tree_nodes.specs.Trees.{Makes, Wraps};
 
-use crate::{fixed_number, high, low};
+use crate::{FIXED, fixed_number, high, low};
 use definition::{NominalKind, Param, Refusal};
 use machine::kinds::Kind;
+use operator_names::Name;
 use tree_records::{Record, Trees};
 
 // Counts one wrap.
@@ -43,21 +44,7 @@ pub fn generic_param(trees: &mut Trees, p: Param) -> usize
 }
 
 // The number that represents the fixed name `Swift`.
-const SWIFT: u32 = 65536;
-
-// Returns the kind of a nominal type.
-#[tactic(auto, unfolding(definition::specs::Node::nominal_kind, definition::specs::Enums::nominal_kind))]
-pub fn nominal_kind(kind: NominalKind) -> Kind
-    ensures { kind_of result ≡ Node.nominal_kind (Enums.nominal_kind kind) }
-{
-    match kind {
-        NominalKind::Class => Kind::Class,
-        NominalKind::Struct => Kind::Struct,
-        NominalKind::Enum => Kind::Enum,
-        NominalKind::Protocol => Kind::Protocol,
-        NominalKind::TypeAlias => Kind::TypeAlias,
-    }
-}
+const SWIFT: u32 = FIXED + Name::Swift as u32;
 
 // Makes a type of the module Swift, and returns its place. Its name is the fixed name with that
 // number.
@@ -73,7 +60,7 @@ pub fn standard_nominal(trees: &mut Trees, kind: NominalKind, name: usize) -> us
         ..Record::ZERO
     });
     trees.grow(Record {
-        kind: nominal_kind(kind),
+        kind: Kind::from(kind),
         size: 2,
         a: fixed_number(name),
         b: module as u32,

@@ -6,7 +6,7 @@ ghost use Rattle.machine.specs.Wanted.{want_of};
 ghost use Rattle.tree_records.specs.Lies.{at};
 ghost use Rattle.tree_records.specs.Trees.{Stays, Reads, Has};
 ghost use Rattle.tree_nodes.specs.Gives.{nothing_spare};
-ghost use Rattle.tree_nodes.specs.Trees.{Takes, Tries, Marks, TakesName};
+ghost use Rattle.tree_nodes.specs.Trees.{Takes, Tries, Tried, Marks, TakesName};
 
 use definition::Refusal;
 use machine::kinds::{Kind, Want, is_context, wanted};
@@ -31,6 +31,7 @@ pub fn pop_if(trees: &mut Trees, want: Want) -> Result<usize, Refusal>
     requires { Has trees.old nothing_spare }
     ensures reads { Reads trees.old trees.new }
     ensures takes { Takes (R.pop_if (want_of want)) 3 trees.old trees.new result }
+    ensures tries { Tried (R.try (want_of want)) trees.old trees.new result }
 {
     let place = trees.pop()?;
     if !wanted(want, trees.field(place, Record::KIND)) {

@@ -29,7 +29,7 @@ pub const NUMBERED: u32 = 3;
 pub const QUALIFIED: u32 = 4;
 
 // The form of an associated conformance, with the cell of its qualifier.
-#[derive(Clone, Copy, Debug, PartialEq, Eq)]
+#[derive(Clone, Copy)]
 pub struct Qualified {
     pub form: u32,
     pub cell: u32,

@@ -1,5 +1,5 @@
 -- The top of the stack, for any machine that the workspace holds.
-use mathlib.Core.Path.{◌≡◌, refl, sym, subst}
+use mathlib.Core.Path.{◌≡◌, refl, sym, ap, subst}
 use mathlib.Core.List.{List, [], ◌∷◌}
 use Prim.Native.Nat.{ℕ, suc, ◌+◌, ◌-◌, ◌*◌, ◌^◌, ◌≤◌, ◌<◌}
 use native.Mathlib.Omega.{arith}
@@ -62,3 +62,9 @@ took w N st p h e l =
       below = l;
       gives = λ nm sp m q. subst (λ (x : ℕ). TopIs nm w N st.top x (at_depth (st.depth - 1) st) sp m) (sym e) (top_is (st.depth - 1) d q);
     }
+
+-- the same, for the place that is read
+pub top_taken : (w : List ℕ) (N : ℕ) (st : State) → 0 < st.depth → get_or w (60 * N + st.depth - 1) 0 < 2 ^ 32 → Took w N st (get_or w (60 * N + st.depth - 1) 0) (at_depth (st.depth - 1) st)
+top_taken w N st h l =
+    let same : 60 * N + st.depth - 1 ≡ 60 * N + (st.depth - 1) = omega arith in
+    took w N st _ h (ap (λ (j : ℕ). get_or w j 0) same) l

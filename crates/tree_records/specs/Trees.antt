@@ -1,13 +1,30 @@
 -- What the methods of `Trees` say.
 use Rattle.std.specs.Prelude.{◌≡◌, List, [], ◌∷◌, ℕ, ◌-◌, Option, Some, None, Result, Ok, Err}
+use Rattle.std.specs.Borrow.{MutBor}
+use Rattle.definition.specs.Budget as B
 use Rattle.definition.specs.Perform.{Demangler}
 use Rattle.definition.specs.declared.Refusal.{Refusal}
 use Rattle.definition.specs.declared.Refusal.TheVariants.{Stack}
 use Rattle.machine.specs.Kinds.{kind_of}
+use Rattle.machine.specs.Spent.{budget_of}
 use Rattle.tree_records.specs.Holds.{Names, Spare, Holds, Ready, Took}
 use Rattle.tree_records.specs.declared.Record.{Record}
 use Rattle.tree_records.specs.declared.State.{State}
 use Rattle.tree_records.specs.declared.Trees.{Trees}
+
+-- nothing is counted, made, on the stack or remembered
+pub record Fresh (st : State) : Type 0 where
+  pub budget : budget_of st.budget ≡ B.fresh
+  pub top : st.top ≡ 0
+  pub depth : st.depth ≡ 0
+  pub seen : st.seen ≡ 0
+
+-- the workspace r is lent, and no tree is made
+pub record Begun (r : MutBor (List ℕ)) (N : ℕ) (s : Trees) : Type 0 where
+  pub slice : s.ws.now ≡ r.now
+  pub name : s.ws.ghost_name ≡ r.ghost_name
+  pub ceiling : s.n ≡ N
+  pub fresh : Fresh s.state
 
 -- the slice that is lent and the ceiling stay
 pub record Stays (t t' : Trees) : Type 0 where

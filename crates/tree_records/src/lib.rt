@@ -5,11 +5,16 @@
 ghost use Rattle.std.specs.Prelude.{◌≡◌, List, [], ◌∷◌, ◌+◌, ◌*◌, ◌^◌, ◌≤◌, ◌<◌, length};
 ghost use Rattle.tree_records.specs.Lies.{at};
 ghost use Rattle.tree_records.specs.Holds.{Inside, Grew, Pushed, Remembered};
-ghost use Rattle.tree_records.specs.Trees.{Stays, Reads, Peeks, Pops, numbers};
+ghost use Rattle.tree_records.specs.Trees.{Fresh, Begun, Stays, Reads, Peeks, Pops, numbers};
 
 use definition::Refusal;
 use machine::budget::Budget;
 use machine::kinds::Kind;
+
+// The places on the stack are stored from STACK * n on, those that are remembered from SEEN * n on.
+pub const STACK: usize = 60;
+
+pub const SEEN: usize = 61;
 
 // The counts, the number of records, and the numbers of places on the stack and remembered.
 #[derive(Clone, Copy)]
@@ -20,9 +25,27 @@ pub struct State {
     pub seen: usize,
 }
 
+impl State {
+    // Returns the state at the beginning of a run: no tree is made.
+    pub fn new() -> Self
+        ensures { Fresh result }
+    {
+        State {
+            budget: Budget::new(),
+            top: 0,
+            depth: 0,
+            seen: 0,
+        }
+    }
+}
+
 // Trees as records in a lent workspace: 8 numbers for each record, children given by place. The
-// ceiling is n. The places on the stack are stored from 60 * n on, and those that are remembered
-// from 61 * n on.
+// ceiling is n.
+// Kept: what the workspace holds, and how much it has to spare (`Has`, `Inside`), stands in clauses
+// of the functions and is no ghost field. What there is to spare changes within an operator: a node
+// is charged before it is made, and trees are taken one by one. The weakest of these facts, that
+// some machine is stored (`nothing_spare`), would be asked of `grow`, `push` and `remember` too,
+// which now ask for numbers only.
 #[derive(Drop)]
 pub struct Trees<'a> {
     pub ws: &'a mut [u32],
@@ -32,7 +55,7 @@ pub struct Trees<'a> {
 
 // The 8 numbers of a record: its kind, size and count, and 5 that its kind gives a meaning. A cell
 // of a list is a record, too: its label, its tree and the cell after it are a, b and c.
-#[derive(Clone, Copy, Debug, PartialEq, Eq)]
+#[derive(Clone, Copy)]
 pub struct Record {
     pub kind: Kind,
     pub size: u32,
@@ -46,6 +69,8 @@ pub struct Record {
 
 impl Record {
     // Where each number is.
+    // Kept: a field is a number below 8 and no enum, since `Source::field` of the printer has the
+    // same numbers, and takes them from the codes of pieces, too.
     pub const KIND: usize = 0;
 
     pub const SIZE: usize = 1;
@@ -72,6 +97,19 @@ impl Record {
     };
 }
 
+impl<'a> Trees<'a> {
+    // Returns the trees at the beginning of a run, whatever the workspace holds.
+    pub fn new(ws: &'a mut [u32], n: usize) -> Self
+        ensures { Begun ws.entry n result }
+    {
+        Trees {
+            ws,
+            n,
+            state: State::new(),
+        }
+    }
+}
+
 impl Trees<'_> {
     // Returns one number of the record at a place.
     pub fn field(&self, place: usize, k: usize) -> u32
@@ -86,10 +124,11 @@ impl Trees<'_> {
         requires { (8 * place + 8 ≤ length self.now.ws.now) × (k < 8) }
         ensures { (result ≡ at self.now.ws.now place k) × (result < 2 ^ 32) }
     {
-        wide(self.field(place, k))
+        self.field(place, k) as usize
     }
 
     // Returns the place of the top of the stack, and leaves it there.
+    #[tactic(auto, using(crate::proofs::Tops::top_taken))]
     pub fn peek(&self) -> Option<usize>
         requires { Inside self.now.ws.now self.now.n self.now.state 0 0 0 }
         ensures { Peeks self.now result }
@@ -97,7 +136,7 @@ impl Trees<'_> {
         if self.state.depth == 0 {
             return None;
         }
-        Some(wide(self.ws[60 * self.n + self.state.depth - 1]))
+        Some(self.ws[STACK * self.n + self.state.depth - 1] as usize)
     }
 
     // Takes the place of the top of the stack.
@@ -141,32 +180,20 @@ impl Trees<'_> {
         ensures stays { Stays self.old self.new }
         ensures pushed { Pushed self.old.ws.now self.new.ws.now self.old.n self.old.state self.new.state place }
     {
-        self.ws[60 * self.n + self.state.depth] = place as u32;
+        self.ws[STACK * self.n + self.state.depth] = place as u32;
         self.state.depth += 1;
     }
 
     // Remembers a place.
+    // Kept: `push` and `remember` differ in the base and the counter; one function would take both,
+    // and its contract would be a choice between these two.
     pub fn remember(&mut self, place: usize)
         requires inside { Inside self.old.ws.now self.old.n self.old.state 0 0 1 }
         requires place_bound { place < 2 ^ 32 }
         ensures stays { Stays self.old self.new }
         ensures remembered { Remembered self.old.ws.now self.new.ws.now self.old.n self.old.state self.new.state place }
     {
-        self.ws[61 * self.n + self.state.seen] = place as u32;
+        self.ws[SEEN * self.n + self.state.seen] = place as u32;
         self.state.seen += 1;
     }
-}
-
-// Returns field k of the record at place p.
-pub fn field(ws: &[u32], p: usize, k: usize) -> u32
-    requires { (8 * p + 8 ≤ length ws.now) × (k < 8) }
-    ensures { result ≡ at ws.now p k }
-{
-    ws[8 * p + k]
-}
-
-pub fn wide(x: u32) -> usize
-    ensures { (result ≡ x) × (result < 2 ^ 32) }
-{
-    x as usize
 }

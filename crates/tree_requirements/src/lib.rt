@@ -16,12 +16,10 @@ ghost use Rattle.tree_requirements.specs.Required.{TakesSubject, MakesMember, Co
 
 use definition::{Constraint, NominalKind, Param, Refusal, Subject};
 use machine::kinds::{Kind, Want};
+use operator_names::Name;
 use tree_nodes::leave::{generic_param, push_new, standard_nominal};
 use tree_nodes::take::{assoc_type_name, pop_if, protocol};
 use tree_records::{Record, Trees};
-
-// The number of the fixed name AnyObject.
-const ANY_OBJECT: usize = 3;
 
 // Makes a member type of a generic parameter, and returns its place.
 fn member(trees: &mut Trees, p: Param, name: u32) -> usize
@@ -84,7 +82,7 @@ fn layout(trees: &mut Trees, p: usize, reads: bool) -> Result<(), Refusal>
     if !reads {
         return Err(Refusal::Spelling);
     }
-    let q = standard_nominal(trees, NominalKind::Protocol, ANY_OBJECT);
+    let q = standard_nominal(trees, NominalKind::Protocol, Name::AnyObject as usize);
     push_pair(trees, Kind::ConformanceRequirement, p, q);
     Ok(())
 }

@@ -1,1 +1,4 @@
-pub mod RunLoop
+pub mod MoreWords
+pub mod Steps
+pub mod Names
+pub mod Whole

@@ -3,117 +3,99 @@
 
 // One operator by its letters.
 pub mod perform;
-// One turn: the letters of an operator, and the operator.
-pub mod turns;
 
-ghost use Rattle.std.specs.Prelude.{◌≡◌, true, ◌*◌, ◌≤◌, length};
+ghost use Rattle.std.specs.Prelude.{◌≡◌, [], ◌∷◌, true, ◌*◌, ◌≤◌, ◌<◌, length};
 ghost use Rattle.definition.specs.Text as Text;
+ghost use Rattle.tree_records.specs.Holds.{Inside};
+ghost use Rattle.tree_records.specs.Trees.{Stays};
+ghost use Rattle.tree_nodes.specs.Gives.{Kept};
+ghost use Rattle.tree_run.specs.Meant.{meant};
+ghost use Rattle.tree_run.specs.Laws.{laws_met};
 ghost use Rattle.tree_run.specs.Runs.{Ending};
 
-use crate::turns::{PlainTurned, Turned, name_turn, plain_turn, turn};
-use definition::Refusal;
-use machine::budget::Budget;
-use text_cursor::Cursor;
+use definition::{Operator, Refusal, Refused};
+use machine::kinds::Kind;
+use run::Machine;
+use text_cursor::Reader;
 use text_words::Words;
-use text_words::waiting::{Waiting, note_waiting, wait};
-use tree_records::State;
+use text_words::waiting::{Waiting, note_waiting};
+use tree_nodes::leave::push_kept;
+use tree_records::{Record, State, Trees};
 
-// The state at the end of a run; or the refusal, and the place in the body where the refused
-// operator begins.
-#[derive(Clone, Copy)]
-pub enum Ended {
-    Ran(State),
-    Stopped(Refusal, usize),
-}
-
-// The end of a run, and the words that names are then spelled with.
-#[derive(Clone, Copy)]
-pub struct Reached {
-    pub end: Ended,
+// The reading's machine, as a run has it: the trees, and the words that names are spelled with.
+#[derive(Drop)]
+pub struct Reading<'b, 'a> {
+    pub trees: &'b mut Trees<'a>,
     pub words: Words,
 }
 
-// Performs the turns of `run`: k of them, or fewer if the body ends. It starts anew, whatever the
-// workspace holds. The words of a name that is a literal are noted only before a name that may use
-// them, one that begins with `0`, or where 16 literals wait.
-pub fn run(body: &[u8], k: usize, ws: &mut [u32], n: usize) -> Reached
-    requires { (64 * n ≤ length ws.old) × (n ≤ 65536) × (length body.now ≤ 65535) × (Text.well_formed body.now ≡ true) }
-    ensures { Ending n k body.now ws.old ws.new result.words result.end }
+// Makes a node of the identifier that begins at a place of the text, pushes it and remembers it.
+fn push_name(trees: &mut Trees, at: usize)
+    requires { Inside trees.old.ws.now trees.old.n trees.old.state 5 1 1 × (at < 65536) }
+    ensures stays { Stays trees.old trees.new }
+    ensures kept { Kept trees.old.ws.now trees.new.ws.now trees.old.n trees.old.state trees.new.state (0 ∷ 1 ∷ 0 ∷ at ∷ 0 ∷ 0 ∷ 0 ∷ 0 ∷ []) }
 {
-    let mut st = State {
-        budget: Budget::new(),
-        top: 0,
-        depth: 0,
-        seen: 0,
+    push_kept(
+        trees,
+        Record {
+            kind: Kind::Identifier,
+            size: 1,
+            a: at as u32,
+            ..Record::ZERO
+        },
+    );
+}
+
+impl Machine for Reading<'_, '_> {
+    ghost meaning = { meant };
+
+    ghost laws = { laws_met };
+
+    fn begin(&mut self) -> Result<(), Refusal> {
+        self.trees.state.budget = self.trees.state.budget.step()?.charge(self.trees.n, 1)?;
+        Ok(())
+    }
+
+    fn note(&mut self, text: &[u8], waiting: &Waiting) {
+        note_waiting(text, waiting, &mut self.words);
+    }
+
+    fn identifier(&mut self, text: &mut Reader) -> Result<(), Refusal> {
+        let at = text.at;
+        text_identifiers::identifier(text, &mut self.words)?;
+        push_name(self.trees, at);
+        Ok(())
+    }
+
+    fn literal(&mut self, text: &mut Reader) -> Result<usize, Refusal> {
+        let at = text.at;
+        let bytes = text_identifiers::literal(text, false)?;
+        push_name(self.trees, at);
+        Ok(bytes.from)
+    }
+
+    fn recall(&mut self, times: usize, index: usize) -> Result<(), Refusal> {
+        tree_copies::recall(self.trees, times, index)
+    }
+
+    fn perform(&mut self, op: Operator) -> Result<(), Refusal> {
+        crate::perform::perform(self.trees, op)
+    }
+}
+
+// Performs k turns, or fewer if the body ends. It starts anew, whatever the trees and the words are;
+// the words after it are those that names are spelled with. The place of a refusal is where the
+// refused operator begins in the body.
+pub fn run(body: &[u8], k: usize, trees: &mut Trees, words: &mut Words) -> Result<(), Refused>
+    requires { (64 * trees.old.n ≤ length trees.old.ws.now) × (trees.old.n ≤ 65536) × (length body.now ≤ 65535) × (Text.well_formed body.now ≡ true) }
+    ensures { Ending k body.now trees.old trees.new words.new result }
+{
+    trees.state = State::new();
+    let mut reading = Reading {
+        trees,
+        words: Words::new(),
     };
-    let mut words = Words::new();
-    let mut waiting = Waiting::new();
-    let mut c = Cursor { at: 0 };
-    let mut i = 0;
-    while i < k {
-        let at = c.at;
-        if body.len() <= at {
-            return Reached {
-                end: Ended::Ran(st),
-                words,
-            };
-        }
-        let b = body[at];
-        let held = waiting.len();
-        if text_cursor::is_digit(b) {
-            if (b == b'0') | (held == 16) {
-                note_waiting(body, &waiting, &mut words);
-                waiting = Waiting::new();
-                let named = name_turn(body, c, ws, n, st, words);
-                let got = named.turn;
-                words = named.words;
-                match got {
-                    Turned::To(u, next) => {
-                        st = u;
-                        c = next;
-                        i += 1;
-                    }
-                    Turned::Refused(r) => {
-                        return Reached {
-                            end: Ended::Stopped(r, at),
-                            words,
-                        };
-                    }
-                }
-            } else {
-                match plain_turn(body, c, ws, n, st) {
-                    PlainTurned::To(u, from, next) => {
-                        wait(&mut waiting, from, next.at);
-                        st = u;
-                        c = next;
-                        i += 1;
-                    }
-                    PlainTurned::Refused(r) => {
-                        return Reached {
-                            end: Ended::Stopped(r, at),
-                            words,
-                        };
-                    }
-                }
-            }
-        } else {
-            match turn(body, c, ws, n, st) {
-                Turned::To(u, next) => {
-                    st = u;
-                    c = next;
-                    i += 1;
-                }
-                Turned::Refused(r) => {
-                    return Reached {
-                        end: Ended::Stopped(r, at),
-                        words,
-                    };
-                }
-            }
-        }
-    }
-    Reached {
-        end: Ended::Ran(st),
-        words,
-    }
+    let ended = run::run(body, k, &mut reading);
+    *words = reading.words;
+    ended
 }

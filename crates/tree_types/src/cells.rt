@@ -12,7 +12,7 @@ use tree_records::{Record, Trees};
 
 // A list that was taken from the stack: the number of nodes, the sum of their sizes, and the place
 // of the first cell.
-#[derive(Clone, Copy, Debug, PartialEq, Eq)]
+#[derive(Clone, Copy)]
 pub struct Chain {
     pub count: u32,
     pub sum: u32,
@@ -47,6 +47,8 @@ impl Chain {
 
 // Takes the label on top, if there is one, and returns its number; otherwise the number that says
 // that a label is missing.
+// Kept: `tree_entities` has a `label`, too, the entry of a list of labels, which may not be missing
+// and becomes a cell.
 pub fn label(trees: &mut Trees) -> u32
     requires { Has trees.old nothing_spare }
     ensures reads { Reads trees.old trees.new }

@@ -19,14 +19,14 @@ ghost use Rattle.tree_types.specs.TypeLists.{Rounds, Collects, loop_of, ListNode
 use crate::cells::{Chain, label, push_list};
 use definition::{NominalKind, Param, Refusal};
 use machine::kinds::{Kind, Want};
-use tree_nodes::leave::{generic_param, nominal_kind, push_kept, push_new, wrap};
+use tree_nodes::leave::{generic_param, push_kept, push_new, wrap};
 use tree_nodes::take::{assoc_type_name, context, pop_if, pop_name, protocol, took, try_pop};
 use tree_nodes::{high, low};
 use tree_records::{Record, Trees};
 
 // The lists: the elements of a tuple, the arguments of a generic type, the requirements of a
 // signature, the members of a protocol list.
-#[derive(Clone, Copy, Debug, PartialEq, Eq)]
+#[derive(Clone, Copy)]
 pub enum Lists {
     Elements,
     Arguments,
@@ -46,7 +46,7 @@ pub fn nominal(trees: &mut Trees, kind: NominalKind) -> Result<(), Refusal>
     push_kept(
         trees,
         Record {
-            kind: nominal_kind(kind),
+            kind: Kind::from(kind),
             size,
             a: name,
             b: home as u32,
@@ -143,6 +143,7 @@ fn collect(trees: &mut Trees, of: Lists) -> Result<Chain, Refusal>
     ensures collects { Collects (loop_of of) trees.old.ws.now trees.new.ws.now trees.old.n trees.old.state trees.new.state result }
 {
     let mut list = Chain::EMPTY;
+    // Kept: how far a list goes is known only from what is taken of it.
     'rounds: loop {
         let last = one_round(trees, &mut list, of)?;
         if last {
@@ -167,6 +168,8 @@ fn over_list(trees: &mut Trees, of: Lists, kind: Kind) -> Result<(), Refusal>
 }
 
 // `t`: a tuple.
+// Kept: `protocol_list` differs from it in two names only. Each is an operator under its own name,
+// of two lines; what they share is `over_list`.
 pub fn tuple(trees: &mut Trees) -> Result<(), Refusal>
     requires { Has trees.old full_spare }
     ensures stays { Stays trees.old trees.new }

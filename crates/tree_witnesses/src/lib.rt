@@ -14,6 +14,7 @@ ghost use Rattle.tree_witnesses.specs.Witnesses.{record_over};
 
 use definition::{About, Refusal};
 use machine::kinds::{Kind, Want};
+use operator_names::Name;
 use tree_nodes::build::conformance;
 use tree_nodes::leave::push_new;
 use tree_nodes::take::{pop_if, pop_name, protocol, took};
@@ -22,7 +23,7 @@ use tree_parts::record::{FIXED, LAZY, NUMBERED, about, push_record, qualifier};
 use tree_records::{Record, Trees};
 
 // The number of the words of an associated type, the fixed name 133.
-const ASSOCIATED_TYPE: u32 = 65669;
+const ASSOCIATED_TYPE: u32 = tree_nodes::FIXED + Name::AssociatedTypeDescriptor as u32;
 
 // A record of fixed words.
 pub fn record_of(trees: &mut Trees, what: About, name: usize) -> Result<(), Refusal>

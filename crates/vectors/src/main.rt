@@ -14,14 +14,7 @@ mod readers;
 
 use definition::Answer;
 use std::io::{Read, Stdin, Stdout};
-use text_cursor::{Cursor, Number};
-
-// A number of a case, and the place after the tab that follows it.
-#[derive(Clone, Copy)]
-struct Column {
-    value: usize,
-    next: usize,
-}
+use text_cursor::Reader;
 
 // Writes the bytes. A write that fails is passed over, here and below.
 fn write(to: Stdout, bytes: &[u8]) {
@@ -38,13 +31,11 @@ fn space(to: Stdout) {
 
 // A digit's character, for a digit below 16.
 fn hex_digit(d: u8) -> u8 {
-    if d < 10 {
-        return 48 + d;
+    match d {
+        0..=9 => b'0' + d,
+        10..=15 => b'a' + (d - 10),
+        _ => b'?',
     }
-    if d < 16 {
-        return 87 + d;
-    }
-    63
 }
 
 fn put_hex(to: Stdout, b: u8) {
@@ -58,21 +49,19 @@ fn put_number(to: Stdout, x: u32) {
 
 // The numbers with spaces between them.
 fn put_values(to: Stdout, values: &[u64]) {
-    let mut i = 0;
-    while i < values.len() {
+    for (i, value) in values.iter().enumerate() {
         if 0 < i {
             space(to);
         }
-        let _ = to.print(values[i]);
-        i += 1;
+        let _ = to.print(*value);
     }
 }
 
 // How much an answer says was written.
 fn written(a: Answer) -> usize {
     match a {
-        Answer::Accepted(_, n) => n,
-        Answer::Refused(_, _) => 0,
+        Ok(accepted) => accepted.length,
+        Err(_) => 0,
     }
 }
 
@@ -85,59 +74,44 @@ fn put_answer(to: Stdout, a: Answer) -> usize {
 }
 
 fn put_bytes(to: Stdout, out: &[u8], n: usize) {
-    let mut i = 0;
-    while i < n {
-        if i < out.len() {
-            put_hex(to, out[i]);
-        }
-        i += 1;
+    for b in out.iter().take(n) {
+        put_hex(to, *b);
     }
 }
 
 fn put_numbers(to: Stdout, out: &[u32], n: usize) {
-    let mut i = 0;
-    while i < n {
+    for (i, x) in out.iter().take(n).enumerate() {
         if 0 < i {
             space(to);
         }
-        if i < out.len() {
-            put_number(to, out[i]);
-        }
-        i += 1;
+        put_number(to, *x);
     }
-}
-
-fn least(a: usize, b: usize) -> usize
-    ensures { (result ≤ a) × (result ≤ b) }
-{
-    if a < b {
-        return a;
-    }
-    b
 }
 
 // The calls 0 and 1.
 fn read(to: Stdout, call: usize, text: &[u8], ceiling: usize, ws: &mut [u32], out: &mut [u8]) {
-    if call == 0 {
-        let a = swift_demangle::demangle(text, ceiling, ws, out);
-        let n = put_answer(to, a);
-        put_bytes(to, out, n);
+    let a = if call == 0 {
+        swift_demangle::demangle(text, ceiling, ws, out)
     } else {
-        let a = swift_demangle::demangle_type(text, ceiling, ws, out);
-        let n = put_answer(to, a);
-        put_bytes(to, out, n);
-    }
+        swift_demangle::demangle_type(text, ceiling, ws, out)
+    };
+    let n = put_answer(to, a);
+    put_bytes(to, out, n);
 }
 
 // The calls 2 and 3.
 fn check(to: Stdout, call: usize, text: &[u8], ceiling: usize, ws: &mut [u32]) {
-    if call == 2 {
-        put_answer(to, swift_shape::shape(text, ceiling, ws));
+    let a = if call == 2 {
+        swift_shape::shape(text, ceiling, ws)
     } else {
-        put_answer(to, swift_shape::shape_type(text, ceiling, ws));
-    }
+        swift_shape::shape_type(text, ceiling, ws)
+    };
+    put_answer(to, a);
 }
 
+// The calls 4 to 7.
+// Kept: here and in `read`, `check` and `run_call`, a call's number is what a line of input says; an
+// enum would be made from the same numbers.
 fn stopped(
     call: usize,
     text: &[u8],
@@ -166,7 +140,7 @@ fn run_call(
     numbers: &mut [u32],
 ) {
     if call < 2 {
-        let m = least(room, bytes.len());
+        let m = room.min(bytes.len());
         read(to, call, text, ceiling, ws, &mut bytes[0..m]);
         return;
     }
@@ -174,89 +148,49 @@ fn run_call(
         check(to, call, text, ceiling, ws);
         return;
     }
-    let m = least(room, numbers.len());
+    let m = room.min(numbers.len());
     let a = stopped(call, text, ceiling, k, ws, &mut numbers[0..m]);
     let n = put_answer(to, a);
     put_numbers(to, numbers, n);
 }
 
-// The number at that place, or 0 for `-`.
-fn field(line: &[u8], at: usize) -> Column {
-    if at < line.len() {
-        if line[at] == b'-' {
-            return Column {
-                value: 0,
-                next: least(at + 2, line.len()),
-            };
-        }
-    }
-    match text_cursor::natural(line, Cursor { at }) {
-        Number::Read(value, c) => {
-            let end = c.at;
-            if end < line.len() {
-                return Column {
-                    value,
-                    next: end + 1,
-                };
-            }
-            Column {
-                value,
-                next: line.len(),
-            }
-        }
-        Number::Refused(_) => Column {
-            value: 0,
-            next: line.len(),
-        },
-    }
+// Takes the number at the place, or `-` for 0, and the tab that follows it. A column that is
+// neither is 0 and ends the line.
+fn field(line: &mut Reader) -> usize {
+    let value = if line.next_if(b'-') {
+        0
+    } else if let Ok(n) = line.natural() {
+        n
+    } else {
+        line.at = line.text.len();
+        0
+    };
+    line.next_if_any();
+    value
 }
 
 fn nibble(b: u8) -> u8
     ensures { result ≤ 15 }
 {
-    if b < 48 {
-        return 0;
+    match b {
+        b'0'..=b'9' => b - b'0',
+        b'a'..=b'f' => b - b'a' + 10,
+        _ => 0,
     }
-    if b < 58 {
-        return b - 48;
-    }
-    if b < 97 {
-        return 0;
-    }
-    if b < 103 {
-        return b - 87;
-    }
-    0
 }
 
-fn store(text: &mut [u8], n: usize, b: u8)
-    requires { n < length text.old }
-    ensures { length text.new ≡ length text.old }
-{
-    text[n] = b;
-}
-
-// The bytes that the hexadecimal digits from a place on stand for, as far as there is room; returns
-// how many.
-fn decode(line: &[u8], from: usize, text: &mut [u8]) -> usize
+// The bytes that the hexadecimal digits from the place on stand for, as far as there is room;
+// returns how many.
+fn decode(line: &mut Reader, text: &mut [u8]) -> usize
     ensures { result ≤ length text.new }
 {
-    let mut at = from;
-    let mut n = 0;
-    while n < text.len() {
-        if line.len() <= at {
+    for (n, b) in text.iter_mut().enumerate() {
+        let Some([high, low]) = line.take(2) else {
             return n;
-        }
-        if line.len() - at < 2 {
-            return n;
-        }
-        let high = nibble(line[at]);
-        let low = nibble(line[at + 1]);
-        store(text, n, 16 * high + low);
-        n += 1;
-        at += 2;
+        };
+        *b = 16 * nibble(*high) + nibble(*low);
     }
-    n
+    text.len()
 }
 
 fn run_case(
@@ -267,31 +201,29 @@ fn run_case(
     numbers: &mut [u32],
     text: &mut [u8],
 ) {
-    let call = field(line, 0);
-    let ceiling = field(line, call.next);
-    let k = field(line, ceiling.next);
-    let workspace = field(line, k.next);
-    let room = field(line, workspace.next);
-    let n = decode(line, room.next, text);
-    let w = least(workspace.value, ws.len());
+    let mut line = Reader { text: line, at: 0 };
+    let call = field(&mut line);
+    let ceiling = field(&mut line);
+    let k = field(&mut line);
+    let workspace = field(&mut line);
+    let room = field(&mut line);
+    let n = decode(&mut line, text);
+    let w = workspace.min(ws.len());
     run_call(
         to,
-        call.value,
-        &text[0..n],
-        ceiling.value,
-        k.value,
-        &mut ws[0..w],
-        room.value,
+        call,
+        &text[..n],
+        ceiling,
+        k,
+        &mut ws[..w],
+        room,
         bytes,
         numbers,
     );
 }
 
 fn starts_with_letter(line: &[u8]) -> bool {
-    if line.len() == 0 {
-        return false;
-    }
-    b'9' < line[0]
+    line.first().is_some_and(|b| b'9' < *b)
 }
 
 fn answer(
@@ -330,6 +262,7 @@ fn run_lines(
     text: &mut [u8],
 ) {
     let mut at = 0;
+    // Kept: after the last newline there is no line, and `split` would give an empty one.
     while at < all.len() {
         let end = line_forms::ends::line_end(all, at);
         run_line(to, &all[at..end], ws, bytes, numbers, text);
@@ -361,6 +294,7 @@ fn read_full(stdin: Stdin, all: &mut [u8]) -> usize
 {
     let mut stdin = stdin;
     let mut done = 0;
+    // Kept: a read fills as much of what is left as it likes.
     while done < all.len() {
         match stdin.read(&mut all[done..]) {
             Ok(0) => return done,

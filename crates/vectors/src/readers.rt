@@ -5,9 +5,9 @@ ghost use Rattle.text_words.specs.Table.{Fitting};
 // The answer is the values and the next place, or `!` and the number of the refusal.
 // compare/leaves.py says how lines and answers were made.
 use super::{put, space, write};
-use definition::Refusal;
+use definition::{Param, Refusal};
 use std::io::Stdout;
-use text_cursor::{Cursor, Number, ParamRead, Reader};
+use text_cursor::Reader;
 use text_output::Sink;
 use text_symbols::Parts;
 use text_words::Words;
@@ -17,27 +17,27 @@ fn refused(to: Stdout, f: Refusal) {
     put(to, call_values::number(f));
 }
 
-fn show_number(to: Stdout, r: Number) {
+fn show_number(to: Stdout, r: Result<usize, Refusal>, at: usize) {
     match r {
-        Number::Read(n, c) => {
+        Ok(n) => {
             put(to, n);
             space(to);
-            put(to, c.at);
+            put(to, at);
         }
-        Number::Refused(f) => refused(to, f),
+        Err(f) => refused(to, f),
     }
 }
 
-fn show_param(to: Stdout, r: ParamRead) {
+fn show_param(to: Stdout, r: Result<Param, Refusal>, at: usize) {
     match r {
-        ParamRead::Read(p, c) => {
+        Ok(p) => {
             put(to, p.depth);
             space(to);
             put(to, p.index);
             space(to);
-            put(to, c.at);
+            put(to, at);
         }
-        ParamRead::Refused(f) => refused(to, f),
+        Err(f) => refused(to, f),
     }
 }
 
@@ -72,7 +72,7 @@ fn show_place(to: Stdout, at: usize, count: usize) {
 
 // Identifiers one after another: the place after each, and how many words are then known.
 fn identifiers(to: Stdout, text: &[u8], at: usize, w: Words)
-    requires { (at ≤ length text.now) × (length text.now ≤ 65535) × Fitting text.now w × (Text.well_formed text.now ≡ true) }
+    requires { (length text.now ≤ 65535) × Fitting text.now w × (Text.well_formed text.now ≡ true) }
 {
     if text.len() <= at {
         return;
@@ -90,7 +90,7 @@ fn identifiers(to: Stdout, text: &[u8], at: usize, w: Words)
 
 // The same, with the words as a count.
 fn counted(to: Stdout, text: &[u8], at: usize, count: usize)
-    requires { (at ≤ length text.now) × (length text.now ≤ 65535) × (Text.well_formed text.now ≡ true) }
+    requires { (length text.now ≤ 65535) × (Text.well_formed text.now ≡ true) }
 {
     if text.len() <= at {
         return;
@@ -108,14 +108,14 @@ fn counted(to: Stdout, text: &[u8], at: usize, count: usize)
 
 // The first n bytes, where there are so many.
 fn show_first(to: Stdout, bytes: &[u8], n: usize) {
-    if n <= bytes.len() {
-        write(to, &bytes[0..n]);
+    if let Some(first) = bytes.get(..n) {
+        write(to, first);
     }
 }
 
 // A name spelled again from its offset: its length, and its bytes in brackets.
 fn show_name(to: Stdout, out: &mut [u8], text: &[u8], at: usize, w: Words)
-    requires { (at ≤ length text.now) × (length text.now ≤ 65535) × Fitting text.now w }
+    requires { (length text.now ≤ 65535) × Fitting text.now w }
 {
     put(to, text_spelling::name_length(text, at, &w));
     let room = out.len();
@@ -136,7 +136,7 @@ fn name_room() -> [u8; 4096]
 
 // The name of each identifier, spelled with the words that are known after it.
 fn spelled(to: Stdout, text: &[u8], at: usize, w: Words)
-    requires { (at ≤ length text.now) × (length text.now ≤ 65535) × Fitting text.now w × (Text.well_formed text.now ≡ true) }
+    requires { (length text.now ≤ 65535) × Fitting text.now w × (Text.well_formed text.now ≡ true) }
 {
     if text.len() <= at {
         return;
@@ -170,12 +170,24 @@ fn run_words(to: Stdout, c: u8, text: &[u8]) {
 
 // One line: the letter c, and the text.
 fn run(to: Stdout, c: u8, text: &[u8]) {
-    let from = Cursor { at: 0 };
+    let mut reader = Reader { text, at: 0 };
     match c {
-        b'n' => show_number(to, text_cursor::natural(text, from)),
-        b'i' => show_number(to, text_cursor::index(text, from)),
-        b'j' => show_number(to, text_cursor::index_plus_one(text, from)),
-        b'g' => show_param(to, text_cursor::generic_param_index(text, from)),
+        b'n' => {
+            let n = reader.natural();
+            show_number(to, n, reader.at);
+        }
+        b'i' => {
+            let i = reader.index();
+            show_number(to, i, reader.at);
+        }
+        b'j' => {
+            let i = reader.index_plus_one();
+            show_number(to, i, reader.at);
+        }
+        b'g' => {
+            let p = reader.generic_param_index();
+            show_param(to, p, reader.at);
+        }
         b'u' => show_ill_formed(to, text_utf8::ill_formed(text)),
         b's' => show_symbol(to, text_symbols::split(text)),
         b'w' | b'p' | b'c' => run_words(to, c, text),
@@ -186,7 +198,7 @@ fn run(to: Stdout, c: u8, text: &[u8]) {
 }
 
 pub fn answer(to: Stdout, line: &[u8]) {
-    if 0 < line.len() {
-        run(to, line[0], &line[1..]);
+    if let Some((c, text)) = line.split_first() {
+        run(to, *c, text);
     }
 }

@@ -1,56 +1,20 @@
--- Numbers that are compared one by one, and two answers, value by value. Assumes nothing.
-use Rattle.std.specs.Prelude.{if◌then◌else◌}
-use mathlib.Core.Path.{◌≡◌, refl, sym, ap, ap₂, subst, ◌∙◌}
+-- Two answers, value by value. Assumes nothing.
+use mathlib.Core.Path.{◌≡◌, refl, sym, ap, subst, ◌∙◌}
 use mathlib.Core.Bool.{Bool, true, false, not, ◌&&◌}
 use mathlib.Core.List.{List}
-use Prim.Native.Nat.{ℕ, ◌+◌, ◌≤◌, ◌<◌}
+use Prim.Native.Nat.{ℕ, ◌≤◌, ◌<◌}
 use native.Mathlib.Omega.{arith}
-use borrow.Author.Tests.{eq-eqb, ne_eqb}
+use borrow.Author.Tests.{eq-eqb}
 use lib.Dec.{T, eqb, leb, eqb→eq, leb→le, le→leb, nleb→lt, not_T}
-use lib.ListN.{length, get_or, take, drop}
-use lib.Seq.{get_or-take, length-take-le}
+use lib.ListN.{length}
 use Rattle.definition.specs.Base.{same}
 use Rattle.definition.specs.Calls as Calls
 use Rattle.definition.specs.Calls.{refusal}
 use Rattle.definition.specs.Alike.{with_text, WholeAlike}
-use Rattle.definition.specs.Enums.{number}
-use Rattle.definition.specs.declared.Refusal.TheVariants.{Output}
 use Rattle.definition.proofs.SameText.{passed, failed, both, same→≡, same_refl}
-use Rattle.text_cursor.proofs.Steps.{front, ended}
-use Rattle.call_values.specs.Agreement.{same_values, same_answer, due, whole_agree, with_length, values_due, values_agree}
-
--- THE NUMBERS OF TWO STACKS
--- the first i of n agree
-pub record Agrees (a b : List ℕ) (n i : ℕ) : Type 0 where
-  pub inside : i ≤ n
-  pub same_from : same (take n a) (take n b) ≡ same (drop i (take n a)) (drop i (take n b))
-
-module _ (a b : List ℕ) (n i : ℕ) (h : i < n) (k : n ≤ length a) (k' : n ≤ length b) where
-  abbrev pub heads : Type 0
-  heads = same (drop i (take n a)) (drop i (take n b)) ≡ (eqb (get_or a i 0) (get_or b i 0) && same (drop (i + 1) (take n a)) (drop (i + 1) (take n b)))
-
-  one_by_one : heads
-  one_by_one = rw (front (take n a) i (omega (arith, length-take-le n a k)), front (take n b) i (omega (arith, length-take-le n b k')), get_or-take n a i 0 h, get_or-take n b i 0 h) refl
-
-  pub numbers_more : get_or a i 0 ≡ get_or b i 0 → same (drop i (take n a)) (drop i (take n b)) ≡ same (drop (i + 1) (take n a)) (drop (i + 1) (take n b))
-  numbers_more e = one_by_one ∙ rw (eq-eqb _ _ e) refl
-
-  pub numbers_other : (get_or a i 0 ≡ get_or b i 0 → ⊥) → same (drop i (take n a)) (drop i (take n b)) ≡ false
-  numbers_other e = one_by_one ∙ rw (ne_eqb _ _ e) refl
-
-pub numbers_all : (a b : List ℕ) (n i : ℕ) → n ≤ i → n ≤ length a → n ≤ length b → same (drop i (take n a)) (drop i (take n b)) ≡ true
-numbers_all a b n i h k k' = rw (ended (take n a) i (omega (arith, length-take-le n a k)), ended (take n b) i (omega (arith, length-take-le n b k'))) refl
+use Rattle.call_values.specs.Agreement.{same_values, same_answer, due, whole_agree, with_length, values_due}
 
 -- TWO ANSWERS, VALUE BY VALUE
--- a test with `!`
-pub is_false : (b : Bool) → not b ≡ true → b ≡ false
-is_false true h = sym h
-is_false false h = refl
-
-pub is_true : (b : Bool) → not b ≡ false → b ≡ true
-is_true true h = refl
-is_true false h = sym h
-
 -- `same_values` is equality
 all_six : (a b c d e f : Bool) → T (a && b && c && d && e && f) → T a × T b × T c × T d × T e × T f
 all_six a b c d e f h =
@@ -125,36 +89,5 @@ module _ (out : ℕ) (text : List ℕ) (c : Calls.Answer) where
 
 -- the required answer of a whole reading, by the values alone
 module _ (reading check : Calls.Values) where
-  pub values_due_refused : (check.number ≡ 0 → ⊥) → check ≡ values_due reading check
-  values_due_refused h = rw (ne_eqb check.number 0 h) refl
-
-  pub values_due_too_long : (n : ℕ) → check.number ≡ 0 → (reading.number ≡ 0 → ⊥) → n ≡ number Output →
-      ◌≡◌ {A = Calls.Values} (record { number = n; place = 0; steps = 0; total = 0; wraps = 0; length = 0 }) (values_due reading check)
-  unfolding number refusal
-  values_due_too_long n h k e = rw (eq-eqb check.number 0 h, ne_eqb reading.number 0 k, e) refl
-
   pub values_due_accepted : check.number ≡ 0 → reading.number ≡ 0 → with_length reading.length check ≡ values_due reading check
   values_due_accepted h k = rw (eq-eqb check.number 0 h, eq-eqb reading.number 0 k) refl
-
-pub whole_agreed : (a b d v u : Calls.Values) (r : Bool) → a ≡ v → b ≡ u → d ≡ values_due a b → r ≡ same_values a d → r ≡ values_agree v u
-whole_agreed a b d v u r e f g h = h ∙ ap (same_values a) g ∙ ap₂ {C = Bool} values_agree e f
-
--- STOPPED CALLS
-module _ (a b v u : Calls.Values) (e : a ≡ v) (f : b ≡ u) (s s' : List ℕ) where
-  abbrev Stacks : Bool
-  Stacks = same_values v u && same (take v.length s) (take v.length s')
-
-  pub stacks_differ : (q : Bool) → q ≡ same_values a b → q ≡ false → false ≡ Stacks
-  stacks_differ q h k = let z : same_values v u ≡ false = sym (h ∙ ap₂ {C = Bool} same_values e f) ∙ k in rw z refl
-
-  pub stacks_same : (q r : Bool) → q ≡ same_values a b → q ≡ true → r ≡ same (take a.length s) (take a.length s') → r ≡ Stacks
-  stacks_same q r h k l =
-      let z : same_values v u ≡ true = sym (h ∙ ap₂ {C = Bool} same_values e f) ∙ k in
-      l ∙ ap (λ (x : Calls.Values). same (take x.length s) (take x.length s')) e ∙ rw z refl
-
-  pub stacks_inside : (q : Bool) → q ≡ same_values a b → q ≡ true → v.length ≤ length s → u.length ≤ length s' → (a.length ≤ length s) × (a.length ≤ length s')
-  stacks_inside q h k l l' =
-      let x : a.length ≡ v.length = ap (λ (y : Calls.Values). y.length) e in
-      let y : b.length ≡ u.length = ap (λ (z : Calls.Values). z.length) f in
-      let o = one_length a b (sym h ∙ k) in
-      (omega (arith, x, l), omega (arith, o, y, l'))

@@ -14,7 +14,7 @@ entry_at-e-requires c = omega (arith, sound_seen c.requires, c.requires.total, c
 
 pub push_charged-requires : goal.push_charged-requires
 push_charged-requires c =
-    (c.requires.long, c.requires.ceiling, omega (arith, sound_depth c.requires), seen_size c.requires c.if-entries-index.false c.entry_at-e.ensures)
+    (c.requires.long, omega (arith, sound_depth c.requires), seen_size c.requires c.if-entries-index.false c.entry_at-e.ensures)
 
 pub returns : goal.returns
 returns c =

@@ -15,8 +15,8 @@ use Rattle.definition.specs.Calls.{Values}
 use Rattle.definition.specs.Enums.{values, number}
 use Rattle.definition.specs.declared.Counts.{Counts}
 use Rattle.definition.specs.declared.Refusal.{Refusal}
-use Rattle.definition.specs.declared.Answer.{Answer}
-use Rattle.definition.specs.declared.Answer.TheVariants.{Accepted, Refused}
+use Rattle.definition.specs.Enums.{Answer}
+use Rattle.std.specs.Prelude.{Ok, Err}
 use Rattle.definition.specs.Check as Check
 use Rattle.definition.specs.Reading as Reading
 use Rattle.call_endings.specs.Answers as Ends
@@ -32,6 +32,12 @@ use Rattle.line_stream.specs.Does.{Whole, Same, Reads, Answers}
 use Rattle.line_stream.proofs.answers.Sizes.{Fits, demangle_fits}
 
 -- THE ANSWER OF A CALL
+abbrev pub gives : Counts → ℕ → Answer
+gives c n = Ok (record { counts = c; length = n })
+
+abbrev pub refuses : Refusal → ℕ → Answer
+refuses f p = Err (record { refusal = f; place = p })
+
 -- with what it writes from `at` on
 pub record ReadsAt (a : Calls.Answer) (o o' : List ℕ) (at : ℕ) (r : Answer) : Type 0 where
   pub values : values r ≡ a.values
@@ -53,26 +59,26 @@ refused_number Refusal.Stack = refl
 refused_number Refusal.Leftover = refl
 refused_number Refusal.Output = refl
 
-answer_accepted : (c : Counts) (n : ℕ) (told : List ℕ) → line_answer (values (Accepted c n)) told ≡ accepted_line told
+answer_accepted : (c : Counts) (n : ℕ) (told : List ℕ) → line_answer (values (gives c n)) told ≡ accepted_line told
 unfolding line_answer values
 answer_accepted c n told = refl
 
-answer_refused : (f : Refusal) (p : ℕ) (told : List ℕ) → line_answer (values (Refused f p)) told ≡ refused_line (number f) p
+answer_refused : (f : Refusal) (p : ℕ) (told : List ℕ) → line_answer (values (refuses f p)) told ≡ refused_line (number f) p
 unfolding line_answer values
 answer_refused f p told = rw (refused_number f)
 
 -- SHAPES
 module _ {r : Answer} {v : Values} (is : values r ≡ v) where
-  pub shape_accepted : {c : Counts} {n : ℕ} → r ≡ Accepted c n → accepted_line (counts_told c.steps c.total c.wraps) ≡ shape_answer v
+  pub shape_accepted : {c : Counts} {n : ℕ} → r ≡ gives c n → accepted_line (counts_told c.steps c.total c.wraps) ≡ shape_answer v
   unfolding shape_answer values
   shape_accepted {c} {n} q =
-      let s : accepted_line (counts_told c.steps c.total c.wraps) ≡ shape_answer (values (Accepted c n)) = sym (answer_accepted c n (counts_told c.steps c.total c.wraps)) in
+      let s : accepted_line (counts_told c.steps c.total c.wraps) ≡ shape_answer (values (gives c n)) = sym (answer_accepted c n (counts_told c.steps c.total c.wraps)) in
       s ∙ ap (λ (x : Answer). shape_answer (values x)) (sym q) ∙ ap shape_answer is
 
-  pub shape_refused : {f : Refusal} {p k : ℕ} → r ≡ Refused f p → k ≡ number f → refused_line k p ≡ shape_answer v
+  pub shape_refused : {f : Refusal} {p k : ℕ} → r ≡ refuses f p → k ≡ number f → refused_line k p ≡ shape_answer v
   unfolding shape_answer
   shape_refused {f} {p} q j =
-      let s : refused_line (number f) p ≡ shape_answer (values (Refused f p)) = sym (answer_refused f p _) in
+      let s : refused_line (number f) p ≡ shape_answer (values (refuses f p)) = sym (answer_refused f p _) in
       ap (λ (x : ℕ). refused_line x p) j ∙ s ∙ ap (λ (x : Answer). shape_answer (values x)) (sym q) ∙ ap shape_answer is
 
 -- NAMES
@@ -124,14 +130,14 @@ module _ {o o₁ o₂ : List ℕ} {at m from : ℕ} (h : Space o at) (w : Wrote 
     text_wrote : Wrote (length o) o₂ o₃ from a.written (from + length a.written)
     text_wrote = wrote_in a.written x.next refl (omega (arith, from_is, read_room, f.short)) y.written long
 
-    pub accepted_length : {c : Counts} {n : ℕ} → r ≡ Accepted c n → n ≡ length a.written
+    pub accepted_length : {c : Counts} {n : ℕ} → r ≡ gives c n → n ≡ length a.written
     unfolding values
     accepted_length {c} {n} q = ap (λ (z : Answer). (values z).length) (sym q) ∙ ap (λ (v : Values). v.length) y.values ∙ f.told
 
-    pub line_room : {c : Counts} {n : ℕ} → r ≡ Accepted c n → Room (length o) o₃ (from + n)
+    pub line_room : {c : Counts} {n : ℕ} → r ≡ gives c n → Room (length o) o₃ (from + n)
     line_room q = record { past = omega (arith, accepted_length q, f.short, from_is, read_room, x.len, w.len); short = omega (arith, still); small = h.small }
 
-    pub name_accepted : {o₄ : List ℕ} {c : Counts} {n e : ℕ} → r ≡ Accepted c n → Wrote (length o) o₃ o₄ (from + n) (10 ∷ []) e → Appends o o₄ at (name_answer a) e
+    pub name_accepted : {o₄ : List ℕ} {c : Counts} {n e : ℕ} → r ≡ gives c n → Wrote (length o) o₃ o₄ (from + n) (10 ∷ []) e → Appends o o₄ at (name_answer a) e
     unfolding name_answer accepted_line
     name_accepted {o₄} {c} {n} {e} q z =
         let l : n ≡ length a.written = accepted_length q in
@@ -140,7 +146,7 @@ module _ {o o₁ o₂ : List ℕ} {at m from : ℕ} (h : Space o at) (w : Wrote 
         let t : accepted_line (9 ∷ a.written) ≡ name_answer a = sym (answer_accepted c n (9 ∷ a.written)) ∙ ap (λ (k : Answer). line_answer (values k) (9 ∷ a.written)) (sym q) ∙ ap (λ (v : Values). line_answer v (9 ∷ a.written)) y.values in
         appends_is t (appended h s (wrote_then (wrote_then (wrote_then w x) text_wrote) z'))
 
-    pub name_refused : {o₄ : List ℕ} {g : Refusal} {p k e : ℕ} → r ≡ Refused g p → k ≡ number g → Appends o₃ o₄ at (refused_line k p) e → Appends o o₄ at (name_answer a) e
+    pub name_refused : {o₄ : List ℕ} {g : Refusal} {p k e : ℕ} → r ≡ refuses g p → k ≡ number g → Appends o₃ o₄ at (refused_line k p) e → Appends o o₄ at (name_answer a) e
     unfolding name_answer values
     name_refused {o₄} {g} {p} {k} {e} q j z =
         let l : length a.written ≡ 0 = sym f.told ∙ sym (ap (λ (v : Values). v.length) y.values) ∙ ap (λ (u : Answer). (values u).length) q in
@@ -190,7 +196,7 @@ module _ {s s₁ s₂ s₃ : Sink} (b : Whole s × Space s.out.now s.at) (w : Ap
   slice_is : s₃.out.ghost_name ≡ s.out.ghost_name
   slice_is = y.same.slice ∙ x.same ∙ w.same
 
-  pub room_after : {c : Counts} {n : ℕ} → r ≡ Accepted c n → Room s₃.room s₃.out.now (s₃.at + n)
+  pub room_after : {c : Counts} {n : ℕ} → r ≡ gives c n → Room s₃.room s₃.out.now (s₃.at + n)
   room_after {c} {n} q =
       let h : Room (length s.out.now) s₃.out.now (s₂.at + n) = line_room b.1 first second a called f q in
       subst (λ (k : ℕ). Room s₃.room s₃.out.now (k + n)) (sym y.at) (subst (λ (k : ℕ). Room k s₃.out.now (s₂.at + n)) (sym room_is) h)
@@ -198,7 +204,7 @@ module _ {s s₁ s₂ s₃ : Sink} (b : Whole s × Space s.out.now s.at) (w : Ap
   pub room_before : Room s₃.room s₃.out.now s.at
   room_before = record { past = omega (arith, room_is, b.1.room); short = omega (arith, room_is, still b.1 first second a called f); small = omega (arith, room_is, b.1.small) }
 
-  pub sink_accepted : {s₄ s₅ : Sink} {c : Counts} {n : ℕ} → r ≡ Accepted c n → Put s₃ s₄ (s₃.at + n) → Appended s₄ s₅ (10 ∷ []) → Answers s s₅ (name_answer a)
+  pub sink_accepted : {s₄ s₅ : Sink} {c : Counts} {n : ℕ} → r ≡ gives c n → Put s₃ s₄ (s₃.at + n) → Appended s₄ s₅ (10 ∷ []) → Answers s s₅ (name_answer a)
   sink_accepted {s₄} {s₅} {c} {n} q p k =
       let z : Wrote (length s.out.now) s₃.out.now s₅.out.now (s₂.at + n) (10 ∷ []) s₅.at = wrote_of (p.same.room ∙ room_is) p.now (p.at ∙ ap (λ (m : ℕ). m + n) y.at) k.wrote in
       record {
@@ -206,7 +212,7 @@ module _ {s s₁ s₂ s₃ : Sink} (b : Whole s × Space s.out.now s.at) (w : Ap
         appends = name_accepted b.1 first second a called f q z;
       }
 
-  pub sink_refused : {s₄ s₅ : Sink} {g : Refusal} {m k : ℕ} → r ≡ Refused g m → k ≡ number g → k < 2 ^ 64 → m < 2 ^ 64 → Put s₃ s₄ s.at → Appended s₄ s₅ (refused_line k m) → Answers s s₅ (name_answer a)
+  pub sink_refused : {s₄ s₅ : Sink} {g : Refusal} {m k : ℕ} → r ≡ refuses g m → k ≡ number g → k < 2 ^ 64 → m < 2 ^ 64 → Put s₃ s₄ s.at → Appended s₄ s₅ (refused_line k m) → Answers s s₅ (name_answer a)
   sink_refused {s₄} {s₅} {g} {m} {k} q j u v p h =
       let l : length s₃.out.now ≡ length s.out.now = still b.1 first second a called f in
       let z : Wrote (length s₃.out.now) s₃.out.now s₅.out.now s.at (refused_line k m) s₅.at = wrote_of (p.same.room ∙ room_is ∙ sym l) p.now p.at h.wrote in

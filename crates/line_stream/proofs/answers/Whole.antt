@@ -7,7 +7,8 @@ use native.Mathlib.Numerals.{add-one}
 use lib.ListN.{length, get_or, take, drop, length-take}
 use lib.Seq.{take-suc, take-add, get_or-take, get_or-drop}
 use Rattle.definition.specs.Text.{Text}
-use Rattle.text_output.specs.Sink.{Wrote, wrote_nothing, wrote_is, wrote_then, part}
+use Rattle.text_cursor.specs.Part.{part}
+use Rattle.text_output.specs.Sink.{Wrote, wrote_nothing, wrote_is, wrote_then}
 use Rattle.text_output.specs.declared.Sink.{Sink}
 use Rattle.line_forms.specs.LineEnds.{newline, Ends}
 use Rattle.line_forms.specs.Appends.{longest, Space, Appends}

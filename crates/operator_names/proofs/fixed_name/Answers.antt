@@ -6,13 +6,13 @@ use Rattle.operator_names.proofs.FixedNames.{numbered_past}
 use Rattle.operator_names.proofs.Rows.{names_from, row_at}
 use Rattle.operator_names.proofs.fixed_name.Goals as goal
 
-pub returns-then-n-lt52 : goal.returns-then-n-lt52
+pub returns-then-n-lt-SECOND_FROM : goal.returns-then-n-lt-SECOND_FROM
 unfolding opened₀ names_from fixed_names texts
-returns-then-n-lt52 c = row_at 0 52 c.args.n c.args.n c.name_at.ensures (omega arith) (omega arith) refl
+returns-then-n-lt-SECOND_FROM c = row_at 0 52 c.args.n c.args.n c.name_at.ensures (omega arith) (omega arith) refl
 
-pub returns-then-n-lt97 : goal.returns-then-n-lt97
+pub returns-then-n-lt-THIRD_FROM : goal.returns-then-n-lt-THIRD_FROM
 unfolding opened₀ names_from fixed_names texts
-returns-then-n-lt97 c = row_at 52 45 (c.args.n - 52) c.args.n c.name_at-then-n-lt97.ensures (omega arith) (omega arith) refl
+returns-then-n-lt-THIRD_FROM c = row_at 52 45 (c.args.n - 52) c.args.n c.name_at-then-n-lt-THIRD_FROM.ensures (omega arith) (omega arith) refl
 
 pub returns-then-n-lt-NAMES : goal.returns-then-n-lt-NAMES
 unfolding opened₀ names_from fixed_names texts

@@ -1,8 +1,5 @@
-use Rattle.print_names.proofs.Numbers.{named_spells, same_fixed, offset_in}
+use Rattle.print_names.proofs.Numbers.{named_spells, same_fixed}
 use Rattle.print_names.proofs.named_is.Goals as goal
-
-pub name_is-requires : goal.name_is-requires
-name_is-requires c = (offset_in c.args.from.now.text.now c.args.from.now.words.now c.if-k-lt-FIXED.true c.requires.some.is, (c.requires.known.short, c.requires.known.fitting))
 
 pub returns-then-k-lt-FIXED : goal.returns-then-k-lt-FIXED
 returns-then-k-lt-FIXED c name h = c.name_is.ensures name (named_spells c.args.from.now.text.now c.args.from.now.words.now c.if-k-lt-FIXED.true h)

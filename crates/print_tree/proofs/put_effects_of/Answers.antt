@@ -3,4 +3,4 @@ use Rattle.print_tree.proofs.LeafLaws.{effects_are}
 use Rattle.print_tree.proofs.put_effects_of.Goals as goal
 
 pub returns : goal.returns
-returns c = appended_is (effects_are _ _ c.get-throws.ensures.0 c.get-asynchronous.ensures.0) c.put_effects.ensures
+returns c = appended_is (effects_are _ _ c.field-throws.ensures.0 c.field-asynchronous.ensures.0) c.put_effects.ensures

@@ -1,17 +1,26 @@
-use mathlib.Core.Path.{ap}
-use Rattle.definition.specs.Calls.{Values}
-use lib.ListN.{length}
+use Rattle.std.proofs.Common.{length, rules}
 use Rattle.definition.specs.Reading as Reading
-use Rattle.text_symbols.specs.Symbol as Symbols
-use Rattle.call_endings.proofs.Entering.{entered, kept_out, scratch_same, scratch_run}
-use Rattle.call_endings.proofs.Runs.{read_k_ran, within_late}
+use Rattle.call_admission.specs.Admits.{parts}
+use Rattle.call_endings.proofs.Entering.{failed, kept_out, scratch_same}
+use Rattle.swift_demangle.proofs.Ends.{ran_ready, read_k_ran, read_k_not_ran, given_back, answered_k}
 use Rattle.swift_demangle.proofs.read_stopped.Goals as goal
 
-pub read_stopped_body-requires : goal.read_stopped_body-requires
-read_stopped_body-requires c = let h = c.in-Ok.ensures in (h.0.order, h.0.inside, h.1.short, h.1.small, h.1.long, h.0.encoded)
-
-pub returns-in-Ok : goal.returns-in-Ok
-returns-in-Ok c = (entered c.args.what 64 c.args.ceiling (length c.args.workspace.now) c.args.text.now (Reading.stopped_after c.args.ceiling c.args.k) c.in-Ok.ensures.0 c.read_stopped_body.ensures.0, scratch_run 64 c.args.ceiling _ c.args.workspace.now _ _ (ap (λ (v : Values). v.number) c.read_stopped_body.ensures.0.values) (within_late (length c.args.out.now) _ (read_k_ran c.args.ceiling c.args.k (Symbols.symbol c.args.text.now c.in-Ok.body.start c.in-Ok.body.end))) c.read_stopped_body.ensures.1)
+pub returns-in_err-admitted : goal.returns-in_err-admitted
+returns-in_err-admitted c = rw (failed c.from_residual.ensures.1) (kept_out c.args.what 64 c.args.ceiling (length c.args.workspace.now) c.args.text.now (Reading.stopped_after c.args.ceiling c.args.k) c.args.out.now c.in_err-admitted.ensures, scratch_same 64 c.args.ceiling _ c.args.workspace.now)
 
 pub returns-in-Err : goal.returns-in-Err
-returns-in-Err c = (kept_out c.args.what 64 c.args.ceiling (length c.args.workspace.now) c.args.text.now (Reading.stopped_after c.args.ceiling c.args.k) c.args.out.now c.in-Err.ensures, scratch_same 64 c.args.ceiling _ c.args.workspace.now)
+returns-in-Err c =
+    let h = c.in-Err.ensures in
+    let b = c.new-trees.ensures in
+    answered_k c.args.what c.args.text.now c.in_ok-admitted.ensures (given_back b h.wrote (search rules)) c.args.k
+    (rw (c.in_text.ensures, ← b.ceiling) (read_k_not_ran (parts c.in_ok-admitted.admitted) c.new-trees.result c.run.new.trees c.args.k c.args.out.now c.in-Err.refused h))
+
+pub write_stack-written-requires : goal.write_stack-written-requires
+write_stack-written-requires c = ran_ready (parts c.in_ok-admitted.admitted) c.new-trees.result c.run.new.trees c.run.new.words c.args.k c.in_default.ensures
+
+pub returns : goal.returns
+returns c =
+    let h = c.in_default.ensures in
+    let b = c.new-trees.ensures in
+    answered_k c.args.what c.args.text.now c.in_ok-admitted.ensures (given_back b h.wrote (search rules)) c.args.k
+    (rw (← b.ceiling) (read_k_ran (parts c.in_ok-admitted.admitted) c.new-trees.result c.run.new.trees c.run.new.words c.args.k c.args.out.now _ c.write_stack-written.result _ h c.write_stack-written.ensures c.stacked.ensures))

@@ -1,25 +1,15 @@
-use Rattle.std.proofs.Common.{sym, ◌∙◌, ◌+◌, ◌≤◌, length, refl, arith}
+use Rattle.std.proofs.Common.{sym, ◌∙◌}
 use Rattle.definition.specs.Enums.{number}
-use Rattle.text_identifiers.proofs.Steps.{slice_short, slice_whole, slice_ill}
+use Rattle.text_identifiers.proofs.Steps.{slice_short, part_ill, part_read}
 use Rattle.text_identifiers.proofs.bytes_of.Goals as goal
 
-pub returns-then-text-from : goal.returns-then-text-from
+pub returns-in_default : goal.returns-in_default
 unfolding number
-returns-then-text-from c = let r = c.args.text.now in slice_short r.text.now r.at c.args.n c.requires.0 c.if-text-from.true
+returns-in_default c = slice_short c.args.text.now.text.now c.args.text.now.at c.args.n c.requires.0 c.in_default.ensures.few
 
 pub returns-then-not-between_characters : goal.returns-then-not-between_characters
 unfolding number
-returns-then-not-between_characters c =
-    let r = c.args.text.now in
-    let h : r.at + c.args.n ≤ length r.text.now = omega arith in
-    slice_ill r.text.now r.at c.args.n h (sym c.between_characters.ensures ∙ c.if-not-between_characters.true)
+returns-then-not-between_characters c = part_ill c.in-Some.ensures (sym c.between_characters.ensures ∙ c.if-not-between_characters.true)
 
 pub returns : goal.returns
-returns c =
-    let r = c.args.text.now in
-    let h : r.at + c.args.n ≤ length r.text.now = omega arith in
-    record {
-      lies = record { is = slice_whole r.text.now r.at c.args.n h (sym c.between_characters.ensures ∙ c.if-not-between_characters.false); onward = omega arith; some = omega arith; inside = h };
-      text = refl;
-      here = refl;
-    }
+returns c = part_read c.in-Some.ensures c.requires.0 (sym c.between_characters.ensures ∙ c.if-not-between_characters.false)

@@ -20,7 +20,7 @@ bytes_of-requires c =
       | then-punycoded w ↦ behind_mark c.in_ok-n.ensures.says c.if-n-eq0.false w.if-punycoded.true w.next_if.result w.next_if.ensures w.text-is
       | else-punycoded w ↦ behind_length c.in_ok-n.ensures.says c.if-n-eq0.false w.if-punycoded.false w.text-is
     ] in
-    (b.inside, omega arith, rw b.text c.requires)
+    (omega arith, rw b.text c.requires)
 
 pub returns : goal.returns
 returns c =

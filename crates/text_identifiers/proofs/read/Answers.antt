@@ -12,8 +12,7 @@ use Rattle.text_identifiers.proofs.read.Goals as goal
 pub plain-requires : goal.plain-requires
 plain-requires g c =
     let l = c.if-not-next_if.ensures in
-    let k = looked false c.requires.0 l in
-    (k.inside, rw l.text c.requires.1, no_zero l, rw l.text c.requires.2)
+    (rw l.text c.requires.0, no_zero l, rw l.text c.requires.1)
 
 pub returns-then-not-next_if : goal.returns-then-not-next_if
 returns-then-not-next_if g c words h =

@@ -15,11 +15,11 @@ pub returns-in_err-letters : goal.returns-in_err-letters
 returns-in_err-letters c =
     let a = c.args in
     rw (refused_as c.from_residual.result c.from_residual.ensures.1)
-    (ap (λ (s : Bool). round a.known s a.punycoded a.empty (rest a.text.now)) c.if-not-subs.false ∙ then_refused _ c.in_err-letters.ensures.says)
+    (ap (λ (s : Bool). round a.known s a.punycoded a.empty (rest a.text.now)) c.if-not-subs.false ∙ then_refused _ c.in_err-letters.ensures)
 
 pub returns : goal.returns
 returns c =
     let a = c.args in
-    let l = c.in_ok-letters.ensures.says in
+    let l = c.in_ok-letters.ensures in
     pieced_on (round a.known a.subs a.punycoded a.empty) (closing a.punycoded c.in_ok-letters.letters.empty c.in_ok-letters.letters.more) a.text.now c.word_letters.new.text c.close_or_take-2.new.text c.close_or_take-2.result
     (ap (λ (s : Bool). round a.known s a.punycoded a.empty (rest a.text.now)) c.if-not-subs.false ∙ then_ok _ l.is) l.text (omega (arith, l.onward)) c.close_or_take-2.ensures

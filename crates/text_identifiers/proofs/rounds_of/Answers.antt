@@ -18,8 +18,7 @@ loop-e-init g c =
     let r = c.args.text.now in
     record {
       text = refl;
-      inside = c.requires.0;
-      tracked = λ words h. tracked_first (λ k ws. g.K.Known.stands r.text.now k ws) c.args.punycoded c.args.subs r words c.args.known.now h c.requires.0;
+      tracked = λ words h. tracked_first (λ k ws. g.K.Known.stands r.text.now k ws) c.args.punycoded c.args.subs r words c.args.known.now h;
     }
 
 pub returns-in_err-e : goal.returns-in_err-e
@@ -46,7 +45,7 @@ returns-in-Closed g c words h f l =
 pub note-requires : goal.note-requires
 note-requires g c =
     let t = piece_literal (round c.count.result c.loop-e.more c.args.punycoded c.loop-e.empty) c.loop-e.text c.round_of.new.text c.in_ok-e.field-0 c.in-Literal.is c.in_ok-e.ensures in
-    (omega (arith, t.lies.some), rw t.text t.lies.inside, rw (t.text ∙ c.loop-e.invariant.text) c.requires.1)
+    (omega (arith, t.lies.some), rw t.text t.lies.inside, rw (t.text ∙ c.loop-e.invariant.text) c.requires.0)
 
 pub returns-then-not-letters : goal.returns-then-not-letters
 returns-then-not-letters g c words h f l =
@@ -79,7 +78,6 @@ loop-e-preserved g c =
     ] in
     record {
       text = t.text ∙ c.loop-e.invariant.text;
-      inside = rw (t.here, t.text) t.lies.inside;
       tracked = λ words h.
           let k = c.loop-e.invariant.tracked words h in
           tracked_next (λ k ws. g.K.Known.stands r.text.now k ws) c.args.punycoded c.args.subs r words c.loop-e.text c.round_of.new.text c.loop-e.invariant.text k (c.count.ensures r.text.now k.words k.met) (not_flip c.if-not-letters.false) t after;

@@ -4,13 +4,13 @@ use Rattle.text_identifiers.proofs.Steps.{letters_none, letters_stop, letters_la
 use Rattle.text_identifiers.proofs.word_letters.Goals as goal
 
 pub loop-b-init : goal.loop-b-init
-loop-b-init c = record { text = refl; inside = c.requires; onward = omega arith; same = refl }
+loop-b-init c = record { text = refl; onward = omega arith; same = refl }
 
 pub returns-then-known-from : goal.returns-then-known-from
 unfolding number
 returns-then-known-from c =
     let k : c.args.known ≤ c.in-Some.b - 97 = omega (arith, c.from.ensures) in
-    record { says = c.loop-b.invariant.same ∙ letters_unknown c.args.known c.loop-b.empty c.in-Some.ensures.is (sym c.is_lower.ensures ∙ c.if-is_lower.true) k }
+    c.loop-b.invariant.same ∙ letters_unknown c.args.known c.loop-b.empty c.in-Some.ensures.is (sym c.is_lower.ensures ∙ c.if-is_lower.true) k
 
 pub loop-b-preserved : goal.loop-b-preserved
 loop-b-preserved c =
@@ -18,7 +18,6 @@ loop-b-preserved c =
     let k : c.in-Some.b - 97 < c.args.known = omega (arith, c.from.ensures) in
     record {
       text = l.text;
-      inside = omega (arith, c.in-Some.ensures.inside);
       onward = omega (arith, l.onward);
       same = l.same ∙ letters_more c.args.known c.loop-b.empty c.in-Some.ensures.is (sym c.is_lower.ensures ∙ c.if-is_lower.true) k;
     }
@@ -27,34 +26,28 @@ pub returns-then-known-from-2 : goal.returns-then-known-from-2
 unfolding number
 returns-then-known-from-2 c =
     let k : c.args.known ≤ c.in-Some.b - 65 = omega (arith, c.from-then-is_upper.ensures) in
-    record { says = c.loop-b.invariant.same ∙ letters_last_unknown c.args.known c.loop-b.empty c.in-Some.ensures.is (sym c.is_lower.ensures ∙ c.if-is_lower.false) (sym c.is_upper.ensures ∙ c.if-is_upper.true) k }
+    c.loop-b.invariant.same ∙ letters_last_unknown c.args.known c.loop-b.empty c.in-Some.ensures.is (sym c.is_lower.ensures ∙ c.if-is_lower.false) (sym c.is_upper.ensures ∙ c.if-is_upper.true) k
 
 pub returns-then-is_upper : goal.returns-then-is_upper
 returns-then-is_upper c =
     let l = c.loop-b.invariant in
     let k : c.in-Some.b - 65 < c.args.known = omega (arith, c.from-then-is_upper.ensures) in
     record {
-      says = record {
-        is = l.same ∙ letters_last c.args.known c.loop-b.empty c.in-Some.ensures.is (sym c.is_lower.ensures ∙ c.if-is_lower.false) (sym c.is_upper.ensures ∙ c.if-is_upper.true) k;
-        text = l.text;
-        inside = omega (arith, c.in-Some.ensures.inside);
-        onward = omega (arith, l.onward);
-      };
+      is = l.same ∙ letters_last c.args.known c.loop-b.empty c.in-Some.ensures.is (sym c.is_lower.ensures ∙ c.if-is_lower.false) (sym c.is_upper.ensures ∙ c.if-is_upper.true) k;
+      text = l.text;
+      onward = omega (arith, l.onward);
     }
 
 pub returns-else-is_upper : goal.returns-else-is_upper
 returns-else-is_upper c =
     let l = c.loop-b.invariant in
     record {
-      says = record {
-        is = l.same ∙ letters_stop c.args.known c.loop-b.empty c.in-Some.ensures.is (sym c.is_lower.ensures ∙ c.if-is_lower.false) (sym c.is_upper.ensures ∙ c.if-is_upper.false);
-        text = l.text;
-        inside = l.inside;
-        onward = omega (arith, l.onward);
-      };
+      is = l.same ∙ letters_stop c.args.known c.loop-b.empty c.in-Some.ensures.is (sym c.is_lower.ensures ∙ c.if-is_lower.false) (sym c.is_upper.ensures ∙ c.if-is_upper.false);
+      text = l.text;
+      onward = omega (arith, l.onward);
     }
 
 pub returns : goal.returns
 returns c =
     let l = c.loop-b.invariant in
-    record { says = record { is = l.same ∙ letters_none c.args.known c.loop-b.empty c.in_default.ensures; text = l.text; inside = l.inside; onward = omega (arith, l.onward) } }
+    record { is = l.same ∙ letters_none c.args.known c.loop-b.empty c.in_default.ensures; text = l.text; onward = omega (arith, l.onward) }

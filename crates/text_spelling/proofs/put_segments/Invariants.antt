@@ -2,8 +2,8 @@ use Rattle.std.proofs.Common.{◌-◌, length}
 use Rattle.text_spelling.proofs.Loops.{Writing}
 use Rattle.text_spelling.proofs.put_segments.Given as goal
 
-abbrev pub invariant-loop-s : goal.invariant-loop-s
-invariant-loop-s l = Writing l.text l.known l.p l.fn.out l.out l.s
+abbrev pub invariant-loop-bytes : goal.invariant-loop-bytes
+invariant-loop-bytes l = Writing l.text l.known l.p l.fn.out l.out l.segments
 
-abbrev pub decreases-loop-s : goal.decreases-loop-s
-decreases-loop-s l = length l.text - l.s.at
+abbrev pub decreases-loop-bytes : goal.decreases-loop-bytes
+decreases-loop-bytes l = length l.segments.text.text.now - l.segments.text.at

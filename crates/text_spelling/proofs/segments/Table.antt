@@ -2,19 +2,17 @@
 use mathlib.Core.Path.{◌≡◌, refl, sym, ap, ◌∙◌}
 use mathlib.Core.Logic.{⊎_elim}
 use mathlib.Core.List.{List, [], ◌∷◌, ◌++◌}
-use mathlib.Core.Option.{Option, some, none}
+use mathlib.Core.Option.{some, none}
 use Prim.Native.Nat.{ℕ, zero, suc, ◌+◌, ◌-◌, ◌≤◌, ◌<◌}
 use native.Mathlib.Omega.{arith}
 use native.Mathlib.Nat.{eq-or-lt_of_le}
-use lib.ListN.{length, take, drop, get_elem?, length-append}
+use lib.ListN.{length, take, drop, get_elem?, length-append, length-drop, length-take}
 use Rattle.definition.specs.Base.{Name}
 use Rattle.definition.specs.Text.{Text}
 use Rattle.text_words.specs.declared.spans.Span.{Span}
 use Rattle.text_words.specs.Table.{span_at, word_of, words_of, table, Fitting}
 use Rattle.text_words.specs.Table.{Words}
-use Rattle.text_spelling.specs.Segments.{segment, end, of_word}
-use Rattle.text_spelling.specs.SegmentsRead.{Taken}
-use Rattle.text_spelling.specs.declared.segments.Speller.{Speller}
+use Rattle.text_spelling.specs.SegmentsRead.{Word}
 
 found_before : (ws : List Name) (w : Name) (i : ℕ) → i < length ws → get_elem? (ws ++ (w ∷ [])) i ≡ get_elem? ws i
 found_before [] w i h = absurd (omega arith)
@@ -50,23 +48,13 @@ module _ (text : Text) (spans : List Span) where
           ap (get_elem? (words_of text spans n ++ (word_of text spans n ∷ []))) (k ∙ sym (words_length n)) ∙ found_last (words_of text spans n) (word_of text spans n)
           ∙ ap (λ (m : ℕ). some (word_of text spans m)) (sym k)
 
-module _ (text : Text) (w : Words) (i : ℕ) (next : Speller) where
-  pub no_word : w.count ≤ i → of_word (get_elem? (table text w) i) next.more (drop next.at text) ≡ end
-  no_word h =
-      let k : length (table text w) ≤ i = omega (arith, words_length text w.spans w.count) in
-      ap (λ (o : Option Name). of_word o next.more (drop next.at text)) (found_none (table text w) i k)
+module _ (text : Text) (w : Words) (i : ℕ) where
+  pub no_word : w.count ≤ i → get_elem? (table text w) i ≡ none
+  no_word h = found_none (table text w) i (omega (arith, words_length text w.spans w.count))
 
-  pub the_word : {from to : ℕ} {s : Span} → s ≡ span_at w.spans i → from ≡ s.start → to ≡ s.start + s.length → i < w.count → Fitting text w → next.at ≤ length text →
-      Taken (of_word (get_elem? (table text w) i) next.more (drop next.at text)) text next.at next.punycoded from to next
-  the_word {from} {to} {s} e a b h g l =
-      let n : s.length ≡ to - from = omega arith in
-      record {
-        is = ap (λ (o : Option Name). of_word o next.more (drop next.at text)) (words_at text w.spans w.count i h)
-            ∙ ap (λ (t : Span). segment (take t.length (drop t.start text)) next.more (drop next.at text)) (sym e)
-            ∙ ap (λ (m : ℕ). segment (take m (drop s.start text)) next.more (drop next.at text)) n ∙ ap (λ (f : ℕ). segment (take (to - from) (drop f text)) next.more (drop next.at text)) (sym a);
-        kept = refl;
-        order = omega arith;
-        inside = omega (arith, g.inside i h, ap (λ (t : Span). t.start + t.length) e);
-        onward = omega arith;
-        within = l;
-      }
+  pub the_word : {from to : ℕ} {s : Span} {bytes : Name} → s ≡ span_at w.spans i → from ≡ s.start → to ≡ s.start + s.length → i < w.count → Fitting text w → bytes ≡ take (to - from) (drop from text) → Word (get_elem? (table text w) i) text bytes
+  the_word {from} {to} {s} {bytes} e a b h g k =
+      let n : to - from ≡ s.length = omega arith in
+      let q : bytes ≡ word_of text w.spans i = k ∙ ap (λ (m : ℕ). take m (drop from text)) n ∙ ap (λ (f : ℕ). take s.length (drop f text)) a ∙ ap (λ (t : Span). take t.length (drop t.start text)) e in
+      let l : length bytes ≤ length (drop from text) = rw k (omega (arith, length-take (to - from) (drop from text))) in
+      record { is = words_at text w.spans w.count i h ∙ ap (λ (x : Name). some x) (sym q); short = omega (arith, l, length-drop from text) }

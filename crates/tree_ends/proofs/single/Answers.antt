@@ -1,16 +1,16 @@
-use Rattle.std.proofs.Common.{arith}
+use Rattle.std.proofs.Common.{refl, arith}
 use Rattle.tree_nodes.proofs.Ready.{inside_record}
-use Rattle.tree_ends.proofs.StackEnds.{single_none, single_inside, single_at, single_other, at_place}
+use Rattle.tree_ends.proofs.StackEnds.{single_none, single_inside, single_at, single_other}
 use Rattle.tree_ends.proofs.single.Goals as goal
 
-pub returns-then-st-ne1 : goal.returns-then-st-ne1
-returns-then-st-ne1 c = single_none c.args.what c.if-st-ne1.true
+pub returns-then-trees-ne1 : goal.returns-then-trees-ne1
+returns-then-trees-ne1 c = single_none c.args.what c.if-trees-ne1.true
 
 pub field-requires : goal.field-requires
-field-requires c = (inside_record _ (at_place c.wide-place.ensures.0 (single_inside c.args.what (omega arith) c.requires)) c.requires, omega arith)
+field-requires c = (inside_record _ (single_inside c.args.what (omega arith) c.requires) c.requires, omega arith)
 
 pub returns-then-not-takes : goal.returns-then-not-takes
-returns-then-not-takes c = single_other c.args.what (omega arith) _ c.wide-place.ensures.0 (cc)
+returns-then-not-takes c = single_other c.args.what (omega arith) _ refl (cc)
 
 pub returns : goal.returns
-returns c = single_at c.args.what (omega arith) _ c.wide-place.ensures.0 (cc)
+returns c = single_at c.args.what (omega arith) _ refl (cc)

@@ -1,3 +1,4 @@
+use Rattle.tree_nodes.proofs.Cases.{flagged}
 use Rattle.tree_records.proofs.Exits.{failed}
 use Rattle.tree_nodes.proofs.Ready.{ready_none}
 use Rattle.tree_nodes.proofs.Steps.{refuses_first, fails}
@@ -14,4 +15,4 @@ pub push_over-requires : goal.push_over-requires
 push_over-requires c = rw c.context.ensures.stays.ceiling (under c.in_ok-home.ensures.takes c.requires)
 
 pub returns-clause-operates : goal.returns-clause-operates
-returns-clause-operates c = over (deinitializer_node _ _ c.flag.ensures) c.in_ok-home.ensures.takes (rw c.context.ensures.stays.ceiling at c.push_over.ensures.left)
+returns-clause-operates c = over (deinitializer_node _ _ (flagged _ c.from.ensures)) c.in_ok-home.ensures.takes (rw c.context.ensures.stays.ceiling at c.push_over.ensures.left)

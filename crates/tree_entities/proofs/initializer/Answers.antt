@@ -1,4 +1,5 @@
 use Rattle.std.proofs.Common.{arith}
+use Rattle.tree_nodes.proofs.Cases.{flagged}
 use Rattle.tree_records.proofs.Exits.{failed}
 use Rattle.tree_nodes.proofs.Ready.{ready_none}
 use Rattle.tree_entities.proofs.Operating.{has_typed, typed_treed, after_labels, initializer_untyped, initializer_labelless, initializer_alone, initializer_entity, initializer_room, initializer_done}
@@ -29,4 +30,4 @@ pub push_entity-requires-clause-inside : goal.push_entity-requires-clause-inside
 push_entity-requires-clause-inside c = rw (c.context.ensures.stays.ceiling, c.labels.ensures.stays.ceiling, c.initializer_type.ensures.stays.ceiling) (initializer_room c.args.allocating c.in_ok-ty.ensures.takes (rw c.initializer_type.ensures.stays.ceiling at c.in_ok-labelled.ensures.takes) c.requires (rw (c.labels.ensures.stays.ceiling, c.initializer_type.ensures.stays.ceiling) at c.in_ok-home.ensures.takes))
 
 pub returns-clause-operates : goal.returns-clause-operates
-returns-clause-operates c = initializer_done c.args.allocating c.in_ok-ty.ensures.takes (rw c.initializer_type.ensures.stays.ceiling at c.in_ok-labelled.ensures.takes) c.requires (rw (c.labels.ensures.stays.ceiling, c.initializer_type.ensures.stays.ceiling) at c.in_ok-home.ensures.takes) _ c.flag.ensures (rw (c.context.ensures.stays.ceiling, c.labels.ensures.stays.ceiling, c.initializer_type.ensures.stays.ceiling) at c.push_entity.ensures.left)
+returns-clause-operates c = initializer_done c.args.allocating c.in_ok-ty.ensures.takes (rw c.initializer_type.ensures.stays.ceiling at c.in_ok-labelled.ensures.takes) c.requires (rw (c.labels.ensures.stays.ceiling, c.initializer_type.ensures.stays.ceiling) at c.in_ok-home.ensures.takes) _ (flagged _ c.from.ensures) (rw (c.context.ensures.stays.ceiling, c.labels.ensures.stays.ceiling, c.initializer_type.ensures.stays.ceiling) at c.push_entity.ensures.left)

@@ -3,7 +3,7 @@ use mathlib.Core.Path.{◌≡◌, sym, ap, subst, ◌∙◌}
 use mathlib.Core.List.{List, ◌∷◌}
 use Prim.Native.Nat.{ℕ, ◌<◌}
 use native.Mathlib.Omega.{arith}
-use Rattle.definition.specs.Base.{refused, and_then}
+use Rattle.definition.specs.Base.{and_then}
 use Rattle.definition.specs.Enums as Enums
 use Rattle.definition.specs.Enums.{number}
 use Rattle.definition.specs.Node.{size}
@@ -13,13 +13,10 @@ use Rattle.definition.specs.Perform as R
 use Rattle.definition.specs.Perform.{Demangler}
 use Rattle.definition.specs.declared.Operator.{Operator}
 use Rattle.definition.specs.declared.Accessor.{Accessor}
-use Rattle.definition.specs.declared.Refusal.{Refusal}
-use Rattle.tree_records.specs.Holds.{Names, Spare, Inside, Holds, Ready, Pushed, for_push}
+use Rattle.tree_records.specs.Holds.{Inside, Ready, Pushed, for_push}
 use Rattle.tree_records.specs.declared.State.{State}
-use Rattle.machine.specs.Beyond.{Beyond}
 use Rattle.tree_nodes.specs.Gives.{spare, nothing_spare, full_spare, taken, Given, Building, Performed, Operates}
 use Rattle.tree_nodes.specs.Results.{Step}
-use Rattle.tree_nodes.specs.Results as Step
 use Rattle.tree_nodes.proofs.Taking.{less_spare}
 use Rattle.tree_parts.specs.Leaves.{letter}
 

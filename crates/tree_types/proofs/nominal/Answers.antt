@@ -32,4 +32,4 @@ pub push_kept-requires : goal.push_kept-requires
 push_kept-requires c = room_at (has_taken c.context.ensures.stays c.in_ok-home.ensures.takes (has_named c.pop_name.ensures.reads c.in_ok-name.ensures.takes c.requires)) (omega arith) (omega arith) (omega arith)
 
 pub returns-clause-operates : goal.returns-clause-operates
-returns-clause-operates c = nominal_done (E.nominal_kind c.args.kind) _ _ _ _ _ c.nominal_kind.ensures (cc) refl c.in_ok-name.ensures.takes (rw (c.pop_name.ensures.reads.slice, c.pop_name.ensures.reads.ceiling) at c.in_ok-home.ensures.takes) (rw (c.context.ensures.stays.ceiling, c.pop_name.ensures.reads.ceiling) at c.push_kept.ensures.kept)
+returns-clause-operates c = nominal_done (E.nominal_kind c.args.kind) _ _ _ _ _ c.from.ensures (cc) refl c.in_ok-name.ensures.takes (rw (c.pop_name.ensures.reads.slice, c.pop_name.ensures.reads.ceiling) at c.in_ok-home.ensures.takes) (rw (c.context.ensures.stays.ceiling, c.pop_name.ensures.reads.ceiling) at c.push_kept.ensures.kept)

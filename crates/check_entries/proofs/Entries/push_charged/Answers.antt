@@ -14,7 +14,7 @@ pub push_copies-requires : goal.push_copies-requires
 push_copies-requires c =
     let s = c.args.self.now in
     let room = charge_room s.ceiling (c.args.e.size * c.args.times) (budget_of s.state.budget) (budget_of c.in_ok-self.field-0) c.in_ok-self.ensures in
-    (c.requires.0, omega (arith, c.requires.2, room, copies_le c.args.e.size c.args.times c.requires.3))
+    (c.requires.0, omega (arith, c.requires.1, room, copies_le c.args.e.size c.args.times c.requires.2))
 
 pub returns : goal.returns
 returns c = copied_done c.args.e c.args.times c.in_ok-self.field-0 c.in_ok-self.ensures c.push_copies.ensures

@@ -9,10 +9,10 @@ pub returns-then-line-gt-LINE : goal.returns-then-line-gt-LINE
 unfolding number
 returns-then-line-gt-LINE c =
     let k = refused_short c.number.result 0 (search rules) (omega arith) in
-    (answers_is (ap (λ n. refused_line n 0) c.number.ensures ∙ line_long c.args.asked c.args.line.now (omega arith)) (answers_of c.requires.space (omega (arith, k)) c.put_refusal.ensures), c.requires.ws_len)
+    answers_is (ap (λ n. refused_line n 0) c.number.ensures ∙ line_long c.args.asked c.args.line.now (omega arith)) (answers_of c.requires.space (omega (arith, k)) c.put_refusal.ensures)
 
 pub returns-in-Name : goal.returns-in-Name
-returns-in-Name c = (answers_is (line_name c.args.line.now c.in-Name.is (omega arith)) c.answer_name.ensures.0, c.answer_name.ensures.1)
+returns-in-Name c = answers_is (line_name c.args.line.now c.in-Name.is (omega arith)) c.answer_name.ensures
 
 pub returns-in-Shape : goal.returns-in-Shape
-returns-in-Shape c = (answers_is (line_shape c.args.line.now c.in-Shape.is (omega arith)) c.answer_shape.ensures.0, c.answer_shape.ensures.1)
+returns-in-Shape c = answers_is (line_shape c.args.line.now c.in-Shape.is (omega arith)) c.answer_shape.ensures

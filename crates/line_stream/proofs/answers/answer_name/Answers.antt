@@ -6,17 +6,17 @@ use Rattle.line_stream.proofs.answers.answer_name.Goals as goal
 -- src/answers.rt:43:13
 pub overflow_add-out : goal.overflow_add-out
 overflow_add-out c =
-    let r = room_after c.requires.space c.put_byte.ensures c.put_byte-2.ensures _ c.read.ensures.0 (demangle_fits c.args.line.now 256 16384 16384) c.in-Accepted.is in
+    let r = room_after c.requires.space c.put_byte.ensures c.put_byte-2.ensures _ c.read.ensures (demangle_fits c.args.line.now 256 16384 16384) c.in-Ok.is in
     omega (arith, r.past, r.small)
 
 -- src/answers.rt:43:13
 pub invariant_of-out : goal.invariant_of-out
-invariant_of-out c = record { fits = room_after c.requires.space c.put_byte.ensures c.put_byte-2.ensures _ c.read.ensures.0 (demangle_fits c.args.line.now 256 16384 16384) c.in-Accepted.is }
+invariant_of-out c = record { fits = room_after c.requires.space c.put_byte.ensures c.put_byte-2.ensures _ c.read.ensures (demangle_fits c.args.line.now 256 16384 16384) c.in-Ok.is }
 
 -- src/answers.rt:33:1
-pub returns-in-Accepted : goal.returns-in-Accepted
-returns-in-Accepted c = (sink_accepted c.requires.space c.put_byte.ensures c.put_byte-2.ensures _ c.read.ensures.0 (demangle_fits c.args.line.now 256 16384 16384) c.in-Accepted.is (record { same = record { slice = refl; room = refl }; now = refl; at = refl }) c.put_byte-in-Accepted.ensures, c.read.ensures.1)
+pub returns-in-Ok : goal.returns-in-Ok
+returns-in-Ok c = sink_accepted c.requires.space c.put_byte.ensures c.put_byte-2.ensures _ c.read.ensures (demangle_fits c.args.line.now 256 16384 16384) c.in-Ok.is (record { same = record { slice = refl; room = refl }; now = refl; at = refl }) c.put_byte-in-Ok.ensures
 
 -- src/answers.rt:33:1
-pub returns-in-Refused : goal.returns-in-Refused
-returns-in-Refused c = (sink_refused c.requires.space c.put_byte.ensures c.put_byte-2.ensures _ c.read.ensures.0 (demangle_fits c.args.line.now 256 16384 16384) c.in-Refused.is c.number.ensures (search rules) (search rules) (record { same = record { slice = refl; room = refl }; now = refl; at = refl }) c.put_refusal.ensures, c.read.ensures.1)
+pub returns-in-Err : goal.returns-in-Err
+returns-in-Err c = sink_refused c.requires.space c.put_byte.ensures c.put_byte-2.ensures _ c.read.ensures (demangle_fits c.args.line.now 256 16384 16384) c.in-Err.is c.number.ensures (search rules) (search rules) (record { same = record { slice = refl; room = refl }; now = refl; at = refl }) c.put_refusal.ensures

@@ -1,6 +1,7 @@
 use Rattle.std.proofs.Common.{refl, arith}
 use Rattle.tree_records.proofs.Exits.{failed}
 use Rattle.tree_nodes.proofs.Building.{between_built}
+use Rattle.tree_nodes.proofs.Cases.{flagged}
 use Rattle.tree_nodes.proofs.Ready.{ready_none}
 use Rattle.tree_nodes.proofs.Steps.{refuses_first, refuses_after, moves_taken}
 use Rattle.tree_nodes.proofs.Trees.{has_taken, record_at, place_at, room_at}
@@ -43,4 +44,4 @@ returns-clause-builds c =
     let s₁ = c.function_params.ensures.stays in
     let s₂ = c.function_params-2.ensures.stays in
     rw c.grow.ensures.place
-    (between_built c.args.throws c.args.is_async _ _ _ _ _ _ c.requires c.in_ok-params.ensures.takes (rw s₁.ceiling at c.in_ok-output.ensures.takes) (cc) c.param_count-count.ensures refl refl c.flag.ensures c.flag-2.ensures (rw (s₂.ceiling, s₁.ceiling) at c.grow.ensures.grew))
+    (between_built c.args.throws c.args.is_async _ _ _ _ _ _ c.requires c.in_ok-params.ensures.takes (rw s₁.ceiling at c.in_ok-output.ensures.takes) (cc) c.param_count-count.ensures refl refl (flagged _ c.from.ensures) (flagged _ c.from-2.ensures) (rw (s₂.ceiling, s₁.ceiling) at c.grow.ensures.grew))

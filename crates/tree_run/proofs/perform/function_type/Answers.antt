@@ -1,4 +1,4 @@
-use Rattle.std.proofs.Common.{◌≡◌, arith}
+use Rattle.std.proofs.Common.{arith}
 use Rattle.definition.specs.Enums as Enums
 use Rattle.definition.specs.Perform as R
 use Rattle.tree_records.proofs.Exits.{failed}

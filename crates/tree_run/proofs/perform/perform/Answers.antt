@@ -1,4 +1,3 @@
-use Rattle.std.proofs.Common.{◌≡◌}
 use Rattle.definition.specs.Enums as Enums
 use Rattle.definition.specs.Perform as R
 use Rattle.definition.specs.declared.Operator.TheVariants as Operator

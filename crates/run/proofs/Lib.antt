@@ -1,0 +1,4 @@
+pub mod Chains
+pub mod OneOperator
+pub mod RunLoop
+pub mod Readers

@@ -1,0 +1,132 @@
+-- The operator that begins at a reader's place, and the turn that performs it. Assumes nothing.
+use Rattle.std.specs.Prelude.{Result, Ok, Err}
+use Rattle.std.proofs.Common.{Bor}
+use mathlib.Core.Path.{◌≡◌, refl, sym, ap, subst, ◌∙◌}
+use mathlib.Core.Bool.{Bool, true, false}
+use mathlib.Core.List.{List, [], ◌∷◌}
+use mathlib.Core.Logic.{◌⊎◌, inl, inr}
+use Prim.Native.Nat.{ℕ, ◌+◌, ◌<◌}
+use native.Mathlib.Omega.{arith}
+use Rattle.std.proofs.lemmas.Bool.{eqb-true}
+use lib.Dec.{eqb}
+use lib.ListN.{length, get_or, drop}
+use Rattle.definition.specs.Base.{Name, digit, Out, ok, refused, Step, Done, and_then}
+use Rattle.definition.specs.Text.{Text, next_if}
+use Rattle.definition.specs.Budget as B
+use Rattle.definition.specs.Machine.{spend}
+use Rattle.definition.specs.Operators as Op
+use Rattle.definition.specs.Calls.{then_run, turn}
+use Rattle.definition.specs.Enums.{number}
+use Rattle.definition.specs.declared.Refusal.{Refusal}
+use Rattle.machine.proofs.runs.Turns.{inner}
+use Rattle.text_cursor.specs.Reads.{rest, Stands, Took, Left}
+use Rattle.text_cursor.specs.declared.Reader.{Reader}
+use Rattle.text_cursor.proofs.Steps.{front, differ}
+use Rattle.operator_letters.specs.OperatorsRead.{first_operator, IsChain}
+use Rattle.operator_letters.proofs.Choices.{first_is}
+use Rattle.operator_substitutions.proofs.ChainLaws.{operator_chain}
+use Rattle.run.specs.Meaning.{Meaning, Machines, Standing, begun, Does, Refuses, Steps, Fails, Laws}
+use Rattle.run.specs.Turns.{Turning, chained, turn_at}
+
+-- `A`, where it is taken and where it is not
+taken_is : (t u : Text) → next_if (λ b. eqb b 65) t ≡ ok true u → t ≡ 65 ∷ u
+unfolding next_if
+taken_is [] u e = absurd (let z : ◌≡◌ {A = ℕ} 0 1 = cc in omega arith)
+taken_is (b ∷ t) u e = go (eqb b 65) refl e
+  where
+    go : (x : Bool) → eqb b 65 ≡ x → ◌≡◌ {A = Out Text Bool} (elim x [ true ↦ ok true t | false ↦ ok false (b ∷ t) ]) (ok true u) → b ∷ t ≡ 65 ∷ u
+    go true q h = let z : t ≡ u = cc in ap (λ (n : ℕ). n ∷ t) (eqb-true b 65 q) ∙ ap (λ (v : Text). 65 ∷ v) z
+    go false q h = absurd (let z : ◌≡◌ {A = Bool} false true = cc in differ (sym z))
+
+left_is : (u v : Text) → next_if (λ b. eqb b 65) (65 ∷ u) ≡ ok false v → ⊥
+unfolding next_if
+left_is u v e = let z : ◌≡◌ {A = Bool} true false = cc in differ z
+
+module _ {S : Type 0} (k : Meaning S) (l : Laws k) where
+  -- THE OPERATOR
+  module _ (N : ℕ) (r : Reader) where
+    chain_is : {r₁ : Reader} → Took (next_if (λ b. eqb b 65)) r r₁ → k.one N (rest r) ≡ chained k N (rest r₁)
+    chain_is {r₁} a =
+        ap (k.one N) (taken_is (rest r) (rest r₁) a.is) ∙ (l.other N 65 (rest r₁) refl
+        ∙ ap (λ (o : Out Text Op.Operator). then_run o (k.performs N)) (operator_chain (rest r₁)))
+
+    one_operator : r.at < length r.text.now → digit (get_or r.text.now r.at 0) ≡ false → k.one N (rest r) ≡ then_run (first_operator (rest r)) (k.performs N)
+    one_operator h e =
+        ap (k.one N) (front r.text.now r.at h) ∙ (l.other N (get_or r.text.now r.at 0) (drop (r.at + 1) r.text.now) e
+        ∙ ap (λ (o : Out Text Op.Operator). then_run o (k.performs N)) (sym (first_is r.text.now r.at h)))
+
+  module _ (r : Reader) (s : S) where
+    abbrev N : ℕ
+    N = k.ceiling s
+
+    -- a result of one step is a result of the same step written otherwise
+    same_step : (f g : Step (Machines k) Text) → f ≡ g → (i : ℕ) (r₁ : Reader) (t : S) (o : Result Done Refusal) → Turning k g i r r₁ s t o → Turning k f i r r₁ s t o
+    same_step f g e i r₁ t o h = subst (λ (x : Step (Machines k) Text). Turning k x i r r₁ s t o) (sym e) h
+
+    unused : (f : Step (Machines k) Text) (r₁ : Reader) (t : S) (o : Result Done Refusal) → Turning k f 0 r r₁ s t o → Turning k f 1 r r₁ s t o
+    unused f r₁ t (Ok u) h = record { reaches = λ noted m q. h.reaches noted m (l.less r.text.now noted s m q); knows = h.knows; text = h.text; inside = h.inside; wrote = h.wrote }
+    unused f r₁ t (Err x) h = record { fails = λ noted m q. h.fails noted m (l.less r.text.now noted s m q); wrote = h.wrote }
+
+    pub is_chain : {r₁ : Reader} → Took (next_if (λ b. eqb b 65)) r r₁ → (r₂ : Reader) (t : S) (o : Result Done Refusal) → Turning k (chained k N (rest r₁)) 0 r₁ r₂ s t o → Turning k (k.one N (rest r)) 1 r r₂ s t o
+    is_chain {r₁} a r₂ t o g = same_step _ _ (chain_is N r a) 1 r₂ t o (unused _ r₂ t o (earlier o g))
+      where
+        earlier : (o : Result Done Refusal) → Turning k (chained k N (rest r₁)) 0 r₁ r₂ s t o → Turning k (chained k N (rest r₁)) 0 r r₂ s t o
+        earlier (Ok u) h = let q : r₁.text ≡ r.text = a.text in record {
+          reaches = λ noted m p.
+              let z = h.reaches noted m (subst (λ (b : Bor (List ℕ)). k.holds 0 b.now noted s m) (sym q) p) in
+              record { machine = z.machine; is = z.is; holds = subst (λ (b : Bor (List ℕ)). k.holds 0 b.now noted t z.machine) q z.holds };
+          knows = λ words p. subst (λ (b : Bor (List ℕ)). k.knows b.now t words) q (h.knows words (subst (λ (b : Bor (List ℕ)). k.knows b.now s words) (sym q) p));
+          text = h.text ∙ q;
+          inside = h.inside;
+          wrote = h.wrote;
+        }
+        earlier (Err x) h = record { fails = λ noted m p. h.fails noted m (subst (λ (b : Bor (List ℕ)). k.holds 0 b.now noted s m) (sym a.text) p); wrote = h.wrote }
+
+    module _ (h : r.at < length r.text.now) (e : digit (get_or r.text.now r.at 0) ≡ false) {r₁ : Reader} (a : Left (next_if (λ b. eqb b 65)) r r₁) where
+      -- nothing was taken, and the reader is where it was
+      stays : rest r₁ ≡ rest r
+      stays = rw (a.text, a.here) refl
+
+      pub is_operator : (r₂ : Reader) (op : Op.Operator) → Stands (first_operator (rest r₁)) op 1 r₁ r₂ → (t : S) (o : Result Done Refusal) → Steps k (k.performs N op) 1 0 s t o → Turning k (k.one N (rest r)) 1 r r₂ s t o
+      unfolding then_run
+      is_operator r₂ op q t o g = same_step _ _ (one_operator N r h e) 1 r₂ t o (did o g)
+        where
+          is : first_operator (rest r) ≡ ok op (rest r₂)
+          is = ap first_operator (sym stays) ∙ q.is
+
+          did : (o : Result Done Refusal) → Steps k (k.performs N op) 1 0 s t o → Turning k (then_run (first_operator (rest r)) (k.performs N)) 1 r r₂ s t o
+          did (Ok u) d = record {
+            reaches = λ noted m p. let z = d.does r.text.now noted m p in record { machine = z.machine; is = rw (is, z.is) refl; holds = z.holds };
+            knows = d.knows r.text.now;
+            text = q.text ∙ a.text;
+            inside = q.inside;
+            wrote = d.wrote;
+          }
+          did (Err x) d = record { fails = λ noted m p. rw (is, d.refuses r.text.now noted m p) refl; wrote = d.wrote }
+
+      pub is_refused : {x : Refusal} → IsChain r₁ ⊎ (first_operator (rest r₁) ≡ refused (number x)) → Fails k (k.one N (rest r)) 1 r s s x
+      unfolding then_run
+      is_refused (inl z) = absurd (left_is (drop (r₁.at + 1) r₁.text.now) (rest r₁) (ap (next_if (λ b. eqb b 65)) (sym z ∙ stays) ∙ a.is))
+      is_refused (inr z) = record { fails = λ noted m p. ap (λ (f : Step (Machines k) Text). f m) (one_operator N r h e) ∙ rw (ap first_operator (sym stays) ∙ z) refl; wrote = l.itself s }
+
+  -- THE TURN is its beginning and its operator
+  turn_is : (N : ℕ) (t : Text) (m : Machines k) → turn N (k.one N) t m ≡ and_then (begun k N m) (λ x. k.one N t)
+  unfolding turn
+  turn_is N t m = sym (inner (spend B.step m) (spend (B.charge N 1)) (k.one N t))
+
+  module _ (r : Reader) {s t : S} where
+    -- it is refused at its beginning
+    pub turn_not : {x : Refusal} → Refuses k (begun k (k.ceiling s)) 0 s t x → (noted : List Name) (m : Machines k) → k.holds 0 r.text.now noted s m → turn_at k r s m ≡ refused (number x)
+    turn_not b noted m h = turn_is (k.ceiling s) (rest r) m ∙ rw (b.refuses r.text.now noted m h) refl
+
+    module _ (b : Does k (begun k (k.ceiling s)) 0 1 s t) where
+      -- it begins, and its operator follows
+      pub turn_then : (noted : List Name) (m : Machines k) (h : k.holds 0 r.text.now noted s m) → turn_at k r s m ≡ k.one (k.ceiling t) (rest r) (b.does r.text.now noted m h).machine
+      turn_then noted m h =
+          turn_is (k.ceiling s) (rest r) m ∙ (rw (b.does r.text.now noted m h).is refl
+          ∙ ap (λ (N : ℕ). k.one N (rest r) (b.does r.text.now noted m h).machine) (sym (l.ceiling s t b.wrote)))
+
+      pub begun_standing : Standing k 0 r.text.now s → Standing k 1 r.text.now t
+      begun_standing h =
+          let z = b.does r.text.now h.noted h.machine h.holds in
+          record { words = h.words; noted = h.noted; machine = z.machine; knows = b.knows r.text.now h.words h.knows; holds = z.holds }

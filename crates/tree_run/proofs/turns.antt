@@ -1,3 +1,0 @@
-pub mod ChainSteps
-pub mod TurnSteps
-pub mod MoreWords
