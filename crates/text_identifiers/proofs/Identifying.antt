@@ -17,7 +17,7 @@ use Rattle.definition.specs.declared.Refusal.{Refusal}
 use Rattle.text_cursor.specs.declared.Reader.{Reader}
 use Rattle.text_cursor.specs.Reads.{rest, Stands}
 use Rattle.text_words.specs.declared.spans.Span.{Span}
-use Rattle.text_words.specs.Table.{Words, span_at, word_of, words_of, table, Fitting, Lists}
+use Rattle.text_words.specs.Table.{Words, span_at, spans_of, word_of, words_of, table, Fitting, Lists}
 use Rattle.text_words.proofs.Keeping.{table_length}
 use Rattle.text_words.proofs.Counting.{some_words, some_many}
 use Rattle.text_identifiers.specs.Rounds.{Got, got, named, identifier_of}
@@ -42,7 +42,7 @@ long_words text s (suc n) h k =
 
 pub well_kept : (text : Text) (w : Words) → Fitting text w → WellKept (table text w)
 well_kept text w g = record {
-  long = long_words text w.spans w.count g.inside g.long;
+  long = long_words text (spans_of w) w.count g.inside g.long;
   few = rw (← table_length text w) g.few;
 }
 

@@ -1,42 +1,15 @@
 -- A part of a text is copied into a slice eight bytes at a time, and the last eight may overlap
 -- some that were copied before. Assumes nothing.
-use mathlib.Core.Path.{◌≡◌, refl, sym, ap, subst, ◌∙◌}
-use mathlib.Core.List.{List, [], ◌∷◌, ◌++◌, append_assoc}
-use Prim.Native.Nat.{ℕ, zero, suc, ◌+◌, ◌-◌, ◌≤◌, ◌<◌}
+use mathlib.Core.Path.{◌≡◌, refl, sym, ap, ◌∙◌}
+use mathlib.Core.List.{List, ◌++◌, append_assoc}
+use Prim.Native.Nat.{ℕ, ◌+◌, ◌-◌, ◌≤◌, ◌<◌}
 use native.Mathlib.Omega.{arith}
-use native.Mathlib.Numerals.{unary_clauses, add-one}
+use native.Mathlib.Numerals.{add-one}
 use lib.ListN.{length, get_or, take, drop, set, length-set, length-drop}
 use Rattle.std.proofs.lemmas.Slice.{put_mid-paste}
 use borrow.Rule.Slice.PartMut.{put_mid}
-use lib.Seq.{take-length, length-take-le, drop-cons, take-append-le, take-append-add, take-take, take-add, drop-drop, sets, sets-eq, paste, paste-zero, paste-suc, length_paste_head, length-paste, drop-paste}
+use lib.Seq.{take-length, length-take-le, take-append-le, take-append-add, take-take, take-add, drop-drop, sets, sets-eq, paste, paste-zero, paste-suc, length_paste_head, length-paste, drop-paste}
 use Rattle.text_output.specs.Copied.{part, copied}
-
--- EIGHT BYTES
--- n elements, each read separately
-abbrev run : ℕ → List ℕ → ℕ → List ℕ
-run zero l i = []
-run (suc n) l i = get_or l i 0 ∷ run n l (suc i)
-
-run_is : (n : ℕ) (l : List ℕ) (i : ℕ) → i + n ≤ length l → run n l i ≡ take n (drop i l)
-run_is zero l i h = refl
-run_is (suc n) l i h =
-    let k : suc i + n ≤ length l = omega arith in
-    ap (λ (r : List ℕ). get_or l i 0 ∷ r) (run_is n l (suc i) k) ∙ sym (ap (take (suc n)) (drop-cons l i 0 (omega arith)))
-
--- o after n + 1 stores: each stores the byte that was read at its place
-abbrev stored : List ℕ → ℕ → List ℕ → ℕ → ℕ → List ℕ
-stored o at l i zero = set o at (get_or l i 0)
-stored o at l i (suc n) = set (stored o at l i n) (at + suc n) (get_or l (i + suc n) 0)
-
-stored_long : (o : List ℕ) (at : ℕ) (l : List ℕ) (i n : ℕ) → length (stored o at l i n) ≡ length o
-stored_long o at l i zero = length-set o at (get_or l i 0)
-stored_long o at l i (suc n) = length-set (stored o at l i n) (at + suc n) (get_or l (i + suc n) 0) ∙ stored_long o at l i n
-
-pub stored_room : (o : List ℕ) (at : ℕ) (l : List ℕ) (i n : ℕ) → at + suc n < length o → at + suc n < length (stored o at l i n)
-stored_room o at l i n h = subst (λ (k : ℕ). at + suc n < k) (sym (stored_long o at l i n)) h
-
-pub copied_eight : (o : List ℕ) (at : ℕ) (l : List ℕ) (i : ℕ) → i + 8 ≤ length l → stored o at l i 7 ≡ sets o at (take 8 (drop i l))
-copied_eight o at l i h = simp unary_clauses (ap (sets o at) (run_is 8 l i h))
 
 -- none copied yet
 pub copied_none : (o : List ℕ) (at : ℕ) (text : List ℕ) (from : ℕ) → o ≡ copied o at text from from
