@@ -11,8 +11,8 @@ pub returns-in-100 : goal.returns-in-100
 unfolding opened operator about fixed fixed_names
 returns-in-100 c =
     let b = c.in_ok-next.ensures.says in
-    record { says = record { is = choose_then_some _ b.is metatype_records (ap (λ (x : ℕ). pick x metatype_records) c.in-100.is); text = b.text; inside = b.inside; onward = omega arith } }
+    record { says = record { is = choose_then_some _ b.is metatype_records (ap (λ (x : ℕ). pick x metatype_records) c.in-100.is); text = b.text; inside = b.inside; onward = omega arith }; text = b.text }
 
 pub returns-in_default : goal.returns-in_default
 unfolding opened number
-returns-in_default c = record { says = choose_then_none _ c.in_ok-next.ensures.says.is metatype_records (search rules) }
+returns-in_default c = record { says = choose_then_none _ c.in_ok-next.ensures.says.is metatype_records (search rules); text = c.in_ok-next.ensures.text }
