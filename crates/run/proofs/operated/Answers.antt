@@ -21,7 +21,7 @@ returns-in_err-op g c =
     let p = err_from_is_err_and c.from_residual.result c.from_residual.ensures.1 in
     let a = rw c.if-next_if.false at c.next_if.ensures in
     rw (p.1, p.2)
-    (is_refused g.M.Machine.meaning g.met.M.Machine.laws c.args.text.now c.args.machine.now c.requires.1 c.requires.2 a c.in_err-op.ensures.is)
+    (is_refused g.M.Machine.meaning g.met.M.Machine.laws c.args.text.now c.args.machine.now c.requires.1 c.requires.2 a c.in_err-op.ensures)
 
 pub perform-requires : goal.perform-requires
 perform-requires g c = standing_holding g.M.Machine.meaning c.requires.0

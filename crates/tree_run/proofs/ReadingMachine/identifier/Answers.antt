@@ -7,7 +7,7 @@ pub returns-in_err-identifier : goal.returns-in_err-identifier
 returns-in_err-identifier c =
     let p = err_from_is_err_and c.from_residual.result c.from_residual.ensures.1 in
     rw (p.1, p.2)
-    (not_named c.args.self.now c.args.text.now c.requires.inside c.requires.begins c.identifier.new.words c.in_err-identifier.ensures.answer.is)
+    (not_named c.args.self.now c.args.text.now c.requires.inside c.requires.begins c.identifier.new.words c.in_err-identifier.ensures.answer)
 
 pub push_name-requires : goal.push_name-requires
 push_name-requires c = (name_room c.requires.standing, omega (arith, c.requires.inside, c.requires.short))

@@ -7,7 +7,7 @@ pub returns-in_err-bytes : goal.returns-in_err-bytes
 returns-in_err-bytes c =
     let p = err_from_is_err_and c.from_residual.result c.from_residual.ensures.1 in
     rw (p.1, p.2)
-    (not_plain c.args.self.now c.args.text.now c.requires.0.inside c.requires.0.begins c.requires.1 c.in_err-bytes.ensures.is)
+    (not_plain c.args.self.now c.args.text.now c.requires.0.inside c.requires.0.begins c.requires.1 c.in_err-bytes.ensures)
 
 pub push_name-requires : goal.push_name-requires
 push_name-requires c = (name_room c.requires.0.standing, omega (arith, c.requires.0.inside, c.requires.0.short))
