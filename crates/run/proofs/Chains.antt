@@ -71,15 +71,15 @@ module _ {S : Type 0} (k : Meaning S) (l : Laws k) where
             wrote = d.wrote;
           }
 
-      pub item_fails : {u : S} {x : Refusal} → Refuses k (recalled k N t i) 0 s u x → Fails k (chained k N (rest r)) 0 r s u x
+      pub item_fails : {u : S} {x : Refusal} → Refuses k (recalled k N t i) 0 s u x → Fails k (chained k N (rest r)) 0 r r₁ s u x
       item_fails {u} {x} d = go b g
         where
-          go : (b : Bool) → Item (chain (rest r)) r r₁ t i b → Fails k (chained k N (rest r)) 0 r s u x
-          go false a = record { fails = λ noted m h. begins_is m a (d.refuses r.text.now noted m h); wrote = d.wrote }
-          go true a = record { fails = λ noted m h. ends_is m h a (d.refuses r.text.now noted m h); wrote = d.wrote }
+          go : (b : Bool) → Item (chain (rest r)) r r₁ t i b → Fails k (chained k N (rest r)) 0 r r₁ s u x
+          go false a = record { fails = λ noted m h. begins_is m a (d.refuses r.text.now noted m h); text = a.text; wrote = d.wrote }
+          go true a = record { fails = λ noted m h. ends_is m h a (d.refuses r.text.now noted m h); text = a.text; wrote = d.wrote }
 
-    pub item_broken : {x : Refusal} → Breaks (chain (rest r)) (number x) → Fails k (chained k N (rest r)) 0 r s s x
-    item_broken {x} b = record { fails = λ noted m h. ap (λ (ch : Chain). then_run (outcome ch) (k.performs N) m) b.is ∙ l.broken_item N (number x) b.rest m; wrote = l.itself s }
+    pub item_broken : {r₁ : Reader} {x : Refusal} → Breaks (chain (rest r)) (number x) → r₁.text ≡ r.text → Fails k (chained k N (rest r)) 0 r r₁ s s x
+    item_broken {x = x} b q = record { fails = λ noted m h. ap (λ (ch : Chain). then_run (outcome ch) (k.performs N) m) b.is ∙ l.broken_item N (number x) b.rest m; text = q; wrote = l.itself s }
 
 -- ALL ITEMS: the remaining work from here has the same result as the whole
 pub record Chaining {S : Type 0} (k : Meaning S) (r₀ r : Reader) (s t : S) : Type 0 where
@@ -129,9 +129,10 @@ module _ {S : Type 0} (k : Meaning S) (l : Laws k) where
       wrote = l.both s t u h.wrote g.wrote;
     }
 
-  pub chain_refused : {r₀ r : Reader} {s t u : S} {x : Refusal} → Chaining k r₀ r s t → Fails k (chained k (k.ceiling t) (rest r)) 0 r t u x → Fails k (chained k (k.ceiling s) (rest r₀)) 0 r₀ s u x
+  pub chain_refused : {r₀ r r₁ : Reader} {s t u : S} {x : Refusal} → Chaining k r₀ r s t → Fails k (chained k (k.ceiling t) (rest r)) 0 r r₁ t u x → Fails k (chained k (k.ceiling s) (rest r₀)) 0 r₀ r₁ s u x
   chain_refused {s = s} {t = t} {u = u} h g = record {
     fails = λ noted m q. let a = h.goes noted m q in a.1 ∙ g.fails noted a.0 a.2;
+    text = g.text ∙ h.text;
     wrote = l.both s t u h.wrote g.wrote;
   }
 

@@ -22,7 +22,7 @@ use Rattle.machine.proofs.runs.Turns.{inner}
 use Rattle.text_cursor.specs.Reads.{rest, Stands, Took, Left}
 use Rattle.text_cursor.specs.declared.Reader.{Reader}
 use Rattle.text_cursor.proofs.Steps.{front, differ}
-use Rattle.operator_letters.specs.OperatorsRead.{first_operator, IsChain}
+use Rattle.operator_letters.specs.OperatorsRead.{first_operator, IsChain, NoneBegins}
 use Rattle.operator_letters.proofs.Choices.{first_is}
 use Rattle.operator_substitutions.proofs.ChainLaws.{operator_chain}
 use Rattle.run.specs.Meaning.{Meaning, Machines, Standing, begun, Does, Refuses, Steps, Fails, Laws}
@@ -65,7 +65,7 @@ module _ {S : Type 0} (k : Meaning S) (l : Laws k) where
 
     unused : (f : Step (Machines k) Text) (r₁ : Reader) (t : S) (o : Result Done Refusal) → Turning k f 0 r r₁ s t o → Turning k f 1 r r₁ s t o
     unused f r₁ t (Ok u) h = record { reaches = λ noted m q. h.reaches noted m (l.less r.text.now noted s m q); knows = h.knows; text = h.text; inside = h.inside; wrote = h.wrote }
-    unused f r₁ t (Err x) h = record { fails = λ noted m q. h.fails noted m (l.less r.text.now noted s m q); wrote = h.wrote }
+    unused f r₁ t (Err x) h = record { fails = λ noted m q. h.fails noted m (l.less r.text.now noted s m q); text = h.text; wrote = h.wrote }
 
     pub is_chain : {r₁ : Reader} → Took (next_if (λ b. eqb b 65)) r r₁ → (r₂ : Reader) (t : S) (o : Result Done Refusal) → Turning k (chained k N (rest r₁)) 0 r₁ r₂ s t o → Turning k (k.one N (rest r)) 1 r r₂ s t o
     is_chain {r₁} a r₂ t o g = same_step _ _ (chain_is N r a) 1 r₂ t o (unused _ r₂ t o (earlier o g))
@@ -80,7 +80,7 @@ module _ {S : Type 0} (k : Meaning S) (l : Laws k) where
           inside = h.inside;
           wrote = h.wrote;
         }
-        earlier (Err x) h = record { fails = λ noted m p. h.fails noted m (subst (λ (b : Bor (List ℕ)). k.holds 0 b.now noted s m) (sym a.text) p); wrote = h.wrote }
+        earlier (Err x) h = record { fails = λ noted m p. h.fails noted m (subst (λ (b : Bor (List ℕ)). k.holds 0 b.now noted s m) (sym a.text) p); text = h.text ∙ a.text; wrote = h.wrote }
 
     module _ (h : r.at < length r.text.now) (e : digit (get_or r.text.now r.at 0) ≡ false) {r₁ : Reader} (a : Left (next_if (λ b. eqb b 65)) r r₁) where
       -- nothing was taken, and the reader is where it was
@@ -102,12 +102,15 @@ module _ {S : Type 0} (k : Meaning S) (l : Laws k) where
             inside = q.inside;
             wrote = d.wrote;
           }
-          did (Err x) d = record { fails = λ noted m p. rw (is, d.refuses r.text.now noted m p) refl; wrote = d.wrote }
+          did (Err x) d = record { fails = λ noted m p. rw (is, d.refuses r.text.now noted m p) refl; text = q.text ∙ a.text; wrote = d.wrote }
 
-      pub is_refused : {x : Refusal} → IsChain r₁ ⊎ (first_operator (rest r₁) ≡ refused (number x)) → Fails k (k.one N (rest r)) 1 r s s x
+      pub is_refused : {r₂ : Reader} {x : Refusal} → NoneBegins r₁ r₂ x → Fails k (k.one N (rest r)) 1 r r₂ s s x
       unfolding then_run
-      is_refused (inl z) = absurd (left_is (drop (r₁.at + 1) r₁.text.now) (rest r₁) (ap (next_if (λ b. eqb b 65)) (sym z ∙ stays) ∙ a.is))
-      is_refused (inr z) = record { fails = λ noted m p. ap (λ (f : Step (Machines k) Text). f m) (one_operator N r h e) ∙ rw (ap first_operator (sym stays) ∙ z) refl; wrote = l.itself s }
+      is_refused {r₂} {x} n = go n.is
+        where
+          go : IsChain r₁ ⊎ (first_operator (rest r₁) ≡ refused (number x)) → Fails k (k.one N (rest r)) 1 r r₂ s s x
+          go (inl z) = absurd (left_is (drop (r₁.at + 1) r₁.text.now) (rest r₁) (ap (next_if (λ b. eqb b 65)) (sym z ∙ stays) ∙ a.is))
+          go (inr z) = record { fails = λ noted m p. ap (λ (f : Step (Machines k) Text). f m) (one_operator N r h e) ∙ rw (ap first_operator (sym stays) ∙ z) refl; text = n.text ∙ a.text; wrote = l.itself s }
 
   -- THE TURN is its beginning and its operator
   turn_is : (N : ℕ) (t : Text) (m : Machines k) → turn N (k.one N) t m ≡ and_then (begun k N m) (λ x. k.one N t)

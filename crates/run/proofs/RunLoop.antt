@@ -25,8 +25,8 @@ use Rattle.run.proofs.OneOperator.{turn_not, turn_then}
 -- ONE TURN
 module _ {S : Type 0} (k : Meaning S) (l : Laws k) (r : Reader) where
   -- it is refused at its beginning
-  pub step_not : {s t : S} {x : Refusal} (q : Waiting) → Refuses k (begun k (k.ceiling s)) 0 s t x → NotTurned k r q s t x
-  step_not q b = record { refuses = λ words m p h. turn_not k l r b (behind k r.text.now q words) m h; wrote = b.wrote }
+  pub step_not : {s t : S} {x : Refusal} (q : Waiting) → Refuses k (begun k (k.ceiling s)) 0 s t x → NotTurned k r r q s t x
+  step_not q b = record { refuses = λ words m p h. turn_not k l r b (behind k r.text.now q words) m h; text = refl; wrote = b.wrote }
 
   module _ (r₁ : Reader) {s t : S} (b : Does k (begun k (k.ceiling s)) 0 1 s t) (u : S) (q : Waiting) where
     -- an operator that is no name: the literals keep waiting
@@ -47,6 +47,7 @@ module _ {S : Type 0} (k : Meaning S) (l : Laws k) (r : Reader) where
           let all : List Name = behind k r.text.now q words in
           let d = b.does r.text.now all m h in
           turn_then k l r b all m h ∙ g.fails all d.machine d.holds;
+      text = g.text;
       wrote = l.both s t u b.wrote g.wrote;
     }
 
@@ -80,6 +81,7 @@ module _ {S : Type 0} (k : Meaning S) (l : Laws k) (r : Reader) where
           let known = b.knows r.text.now words e in
           turn_then k l r b all m h ∙ (ap (λ (N : ℕ). k.one N (rest r) d.machine) (sym (l.ceiling t v n.wrote))
           ∙ g.refuses all d.machine (n.knows words known) (n.holds 1 words all d.machine known d.holds));
+      text = g.text;
       wrote = l.both s v u (l.both s t v b.wrote n.wrote) g.wrote;
     }
 
@@ -105,12 +107,13 @@ module _ {S : Type 0} (k : Meaning S) (l : Laws k) (r : Reader) where
       wrote = l.both s t u b.wrote g.wrote;
     }
 
-    pub step_not_plain : {x : Refusal} → Fails k (k.one (k.ceiling t) (rest r)) 1 r t u x → NotTurned k r q s u x
+    pub step_not_plain : {x : Refusal} → Fails k (k.one (k.ceiling t) (rest r)) 1 r r₁ t u x → NotTurned k r r₁ q s u x
     step_not_plain g = record {
       refuses = λ words m e h.
           let all : List Name = behind k r.text.now q words in
           let d = b.does r.text.now all m h in
           turn_then k l r b all m h ∙ g.fails all d.machine d.holds;
+      text = g.text;
       wrote = l.both s t u b.wrote g.wrote;
     }
 
@@ -190,8 +193,8 @@ module _ {S : Type 0} (k : Meaning S) (l : Laws k) where
             wrote = l.both s t u h.wrote g.wrote;
           }
 
-      pub run_stopped : {u : S} {x : Refusal} → NotTurned k r q t u x → Stops k n body s u (record { refusal = x; place = r.at })
-      run_stopped {u} {x} g = record {
+      pub run_stopped : {r₁ : Reader} {u : S} {x : Refusal} → NotTurned k r r₁ q t u x → Stops k n body s u (record { refusal = x; place = r.at })
+      run_stopped {u = u} {x = x} g = record {
         is = h.is ∙ (stops (turn (k.ceiling t) (k.one (k.ceiling t))) r.text.now r.at e h.machine (n - i) (n - (i + 1)) one_less (number x) (g.refuses h.words h.machine h.knows h.holds)
             ∙ ap (λ (b : Text). stopped (number x) (length b - r.at)) h.text);
         inside = omega (arith, ap (λ (b : Text). length b) h.text);

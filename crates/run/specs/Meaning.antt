@@ -108,13 +108,14 @@ module _ {S : Type 0} (k : Meaning S) where
     pub inside : r₁.at ≤ length r₁.text.now
     pub wrote : k.wrote s t
 
-  pub record NotNamed (f : Step Machines Text) (i : ℕ) (r : Reader) (s t : S) (x : Refusal) : Type 0 where
+  pub record NotNamed (f : Step Machines Text) (i : ℕ) (r r₁ : Reader) (s t : S) (x : Refusal) : Type 0 where
     pub refuses : (words : List Name) (m : Machines) → k.knows r.text.now s words → k.holds i r.text.now words s m → f m ≡ refused (number x)
+    pub text : r₁.text ≡ r.text
     pub wrote : k.wrote s t
 
   abbrev pub Naming : Step Machines Text → ℕ → (r r₁ : Reader) → (s t : S) → Result Done Refusal → Type 0
   Naming f i r r₁ s t (Ok u) = Names f i r r₁ s t
-  Naming f i r r₁ s t (Err x) = NotNamed f i r s t x
+  Naming f i r r₁ s t (Err x) = NotNamed f i r r₁ s t x
 
   -- a name of one literal, from a place to the reader's new one: the machine of the definition notes
   -- its words, whatever it has noted before, and names may use the same words as before
@@ -126,14 +127,15 @@ module _ {S : Type 0} (k : Meaning S) where
     pub inside : r₁.at ≤ length r₁.text.now
     pub wrote : k.wrote s t
 
-  -- a step on a text that is refused
-  pub record Fails (f : Step Machines Text) (i : ℕ) (r : Reader) (s t : S) (x : Refusal) : Type 0 where
+  -- a step on a text that is refused: the reader keeps its text
+  pub record Fails (f : Step Machines Text) (i : ℕ) (r r₁ : Reader) (s t : S) (x : Refusal) : Type 0 where
     pub fails : (noted : List Name) (m : Machines) → k.holds i r.text.now noted s m → f m ≡ refused (number x)
+    pub text : r₁.text ≡ r.text
     pub wrote : k.wrote s t
 
   abbrev pub PlainNaming : Step Machines Text → ℕ → (r r₁ : Reader) → (s t : S) → Result ℕ Refusal → Type 0
   PlainNaming f i r r₁ s t (Ok from) = Plain f i r r₁ s t from
-  PlainNaming f i r r₁ s t (Err x) = Fails f i r s t x
+  PlainNaming f i r r₁ s t (Err x) = Fails f i r r₁ s t x
 
   -- WHAT EACH MACHINE MEETS
   pub record Laws : Type 0 where

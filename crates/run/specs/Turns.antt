@@ -25,7 +25,7 @@ module _ {S : Type 0} (k : Meaning S) where
 
   abbrev pub Turning : Step (Machines k) Text → ℕ → (r r₁ : Reader) → (s t : S) → Result Done Refusal → Type 0
   Turning f i r r₁ s t (Ok u) = Reaches f i r r₁ s t
-  Turning f i r r₁ s t (Err x) = Fails k f i r s t x
+  Turning f i r r₁ s t (Err x) = Fails k f i r r₁ s t x
 
   -- `A` with these letters after it
   abbrev pub chained : (N : ℕ) → Text → Step (Machines k) Text
@@ -49,7 +49,7 @@ module _ {S : Type 0} (k : Meaning S) where
   abbrev pub Letters : (r r₁ : Reader) → (s t : S) → Result Bool Refusal → Type 0
   Letters r r₁ s t (Ok false) = Goes r r₁ s t
   Letters r r₁ s t (Ok true) = Reaches (chained (k.ceiling s) (rest r)) 0 r r₁ s t
-  Letters r r₁ s t (Err x) = Fails k (chained (k.ceiling s) (rest r)) 0 r s t x
+  Letters r r₁ s t (Err x) = Fails k (chained (k.ceiling s) (rest r)) 0 r r₁ s t x
 
   -- A TURN, with the literals whose words are not noted yet
   abbrev pub turn_at : Reader → S → Step (Machines k) Text
@@ -72,13 +72,14 @@ module _ {S : Type 0} (k : Meaning S) where
     pub waits : Waits r.text.now q₁
     pub wrote : k.wrote s t
 
-  pub record NotTurned (r : Reader) (q : Waiting) (s t : S) (x : Refusal) : Type 0 where
+  pub record NotTurned (r r₁ : Reader) (q : Waiting) (s t : S) (x : Refusal) : Type 0 where
     pub refuses : (words : List Name) (m : Machines k) → k.knows r.text.now s words → k.holds 0 r.text.now (behind r.text.now q words) s m → turn_at r s m ≡ refused (number x)
+    pub text : r₁.text ≡ r.text
     pub wrote : k.wrote s t
 
   abbrev pub Stepping : (r r₁ : Reader) → (q q₁ : Waiting) → (s t : S) → Result Done Refusal → Type 0
   Stepping r r₁ q q₁ s t (Ok u) = Turned r r₁ q q₁ s t
-  Stepping r r₁ q q₁ s t (Err x) = NotTurned r q s t x
+  Stepping r r₁ q q₁ s t (Err x) = NotTurned r r₁ q s t x
 
   -- A RUN
   -- n turns of the definition over the body

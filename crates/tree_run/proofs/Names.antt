@@ -18,7 +18,7 @@ use Rattle.definition.specs.Calls.{then_run}
 use Rattle.definition.specs.Enums.{number}
 use Rattle.definition.specs.declared.Refusal.{Refusal}
 use Rattle.definition.proofs.WordsAdded.{Begins, Looked, begins_refl, identifier_begins}
-use Rattle.text_cursor.specs.Reads.{rest}
+use Rattle.text_cursor.specs.Reads.{rest, Refuses}
 use Rattle.text_cursor.specs.declared.Reader.{Reader}
 use Rattle.text_cursor.proofs.Steps.{front, differ, peek_read}
 use Rattle.text_identifiers.specs.Identifiers as I
@@ -125,16 +125,18 @@ module _ (s : Reading) (r : Reader) (h : r.at < length r.text.now) (e : digit (g
           let here : record r { at = x.to } ≡ r₁ = moved r r₁ a.text a.here in
           subst (λ (q : Reader). Plain meant (D.one N (rest r)) 1 r q s (record s { trees = record s.trees { now = t } }) x.from) here (read_to x.from x.to a.lies)
 
-  pub not_named : (after : Words) {x : Refusal} → W.identifier (table r.text.now s.words) (rest r) ≡ refused (number x) → NotNamed meant (D.one N (rest r)) 1 r s (record s { words = after }) x
+  pub not_named : (after : Words) {r₁ : Reader} {x : Refusal} → Refuses (W.identifier (table r.text.now s.words) (rest r)) x r r₁ → NotNamed meant (D.one N (rest r)) 1 r r₁ s (record s { words = after }) x
   not_named after a = record {
     refuses = λ words m q p.
-        let read : W.identifier m.words (rest r) ≡ refused (number _) = ap (λ (ws : List Name). W.identifier ws (rest r)) (sym p.words ∙ sym q.is) ∙ a in
+        let read : W.identifier m.words (rest r) ≡ refused (number _) = ap (λ (ws : List Name). W.identifier ws (rest r)) (sym p.words ∙ sym q.is) ∙ a.is in
         refused_at N r.text.now r.at h e m read;
+    text = a.text;
     wrote = record { trees = refl; wrote = wrote_itself s.trees.now };
   }
 
-  pub not_plain : is "0" (get_or r.text.now r.at 0) ≡ false → {x : Refusal} → W.literal false (rest r) ≡ refused (number x) → Fails meant (D.one N (rest r)) 1 r s s x
+  pub not_plain : is "0" (get_or r.text.now r.at 0) ≡ false → {r₁ : Reader} {x : Refusal} → Refuses (W.literal false (rest r)) x r r₁ → Fails meant (D.one N (rest r)) 1 r r₁ s s x
   not_plain z a = record {
-    fails = λ all m p. refused_at N r.text.now r.at h e m (one_refused r.text.now r.at h z m.words a);
+    fails = λ all m p. refused_at N r.text.now r.at h e m (one_refused r.text.now r.at h z m.words a.is);
+    text = a.text;
     wrote = lent_itself s;
   }
