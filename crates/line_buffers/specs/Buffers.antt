@@ -1,6 +1,6 @@
 -- The input buffer: what is still to be answered, and the effect of reads, writes and turns on it.
 -- Assumes nothing.
-use Rattle.std.specs.Prelude.{◌≡◌, Bool, true, false, List, [], ◌++◌, ℕ, ◌+◌, ◌-◌, ◌≤◌, ◌<◌, eqb, Option, Result, Ok, Err, length, take, drop}
+use Rattle.std.specs.Prelude.{◌≡◌, Bool, true, false, List, [], ◌++◌, ℕ, ◌+◌, ◌-◌, ◌≤◌, ◌<◌, eqb, Option, Result, Ok, Err, length, take, drop, codes}
 use Rattle.std.specs.Io.KnownBytes.{Consumes}
 use Rattle.definition.specs.Text.{Text}
 use Rattle.text_cursor.specs.Part.{part}
@@ -138,3 +138,9 @@ pub data Run (line : Text → List ℕ) : List ℕ → State → (read : Text) �
 -- before the first step
 abbrev pub start : State
 start = record { from = 0; end = 0; inside = false; ended = false; written = 0; next = Next.Read }
+
+-- A FAILURE
+-- the line that reports it on standard error
+abbrev pub message : Failure → List ℕ
+message Failure.Read = codes "standard input cannot be read\n"
+message Failure.Write = codes "standard output cannot be written\n"

@@ -8,14 +8,15 @@
 // The answer to a line, and to the lines of a buffer.
 pub mod answers;
 
-ghost use Rattle.std.specs.Prelude.{◌≡◌, false, ◌+◌, ◌≤◌, ◌<◌, ◌^◌, length, take, IfOk};
+ghost use Rattle.std.specs.Prelude.{◌≡◌, false, ◌+◌, ◌≤◌, ◌<◌, ◌^◌, length, take, IfOk, OnOk};
 ghost use Rattle.std.specs.Io.KnownBytes.{Appends};
 ghost use Rattle.line_forms.specs.Lines.{line_of};
-ghost use Rattle.line_buffers.specs.Buffers.{Turned, Holds, Stepped, Took};
+ghost use Rattle.line_buffers.specs.Buffers.{message, Turned, Holds, Stepped, Took};
 
 use crate::answers::{WORKSPACE, answer_line, answer_lines};
 use line_buffers::{Failure, Next, Rest, State, Turn, fill, passed, rest_of};
 use line_forms::Asked;
+use std::io;
 use std::io::{Read, Write};
 use text_output::Sink;
 
@@ -144,6 +145,13 @@ fn answer_all<R: Read, W: Write>(
     Ok(())
 }
 
+// Writes the message of a failure as a whole, and not piece by piece.
+fn report<E: Write>(stderr: &mut E, failure: Failure) -> io::Result<()>
+    ensures { OnOk result (Appends (E.contents stderr.old) (E.contents stderr.new) (message failure)) }
+{
+    stderr.write_all(failure.message().as_bytes())
+}
+
 // Answers each line of standard input on standard output. If a read or a write fails, it stops with
 // a message on standard error.
 pub fn answer_input<R: Read, W: Write, E: Write>(
@@ -153,6 +161,6 @@ pub fn answer_input<R: Read, W: Write, E: Write>(
     stderr: &mut E,
 ) {
     if let Err(failure) = answer_all(asked, stdin, stdout) {
-        let _ = writeln!(stderr, "{failure}");
+        let _ = report(stderr, failure);
     }
 }
