@@ -3,7 +3,6 @@ use mathlib.Core.Path.{◌≡◌, refl, sym, ap, subst, ◌∙◌}
 use mathlib.Core.Bool.{true, false}
 use mathlib.Core.List.{List, ◌∷◌}
 use Prim.Native.Nat.{ℕ, ◌+◌, ◌<◌}
-use native.Mathlib.Omega.{arith}
 use lib.ListN.{length, get_or, drop}
 use Rattle.definition.specs.Base.{Name, is, digit, Out, ok, refused, Done, ret, and_then}
 use Rattle.definition.specs.Text.{Text}
@@ -98,6 +97,7 @@ module _ (c d : Check) (lent : d.entries.ghost_name ≡ c.entries.ghost_name) (r
   pub not_named : {x : Refusal} → Ch.identifier c.entries.now.state.words (rest r) ≡ refused (number x) → NotNamed meant (Ch.one N (rest r)) 1 r c c x
   not_named a = record {
     refuses = λ words m q p. name_is words m q p ∙ not_read (λ y. Ch.name N y.words) (machine_of c.entries.now) a;
+    knowing = λ k. k;
     wrote = record { lent = refl; entries = wrote_itself };
   }
 
@@ -132,5 +132,6 @@ module _ (c d : Check) (lent : d.entries.ghost_name ≡ c.entries.ghost_name) (r
       fails = λ noted m p.
           ap (Ch.one N (rest r)) p.is ∙ (one_name N r.text.now r.at h e (machine_of (with_words (length noted) c.entries.now))
           ∙ not_read (λ y. Ch.name N y.words) (machine_of (with_words (length noted) c.entries.now)) (one_not_counted r.text.now r.at h z (length noted) a));
+      knowing = λ k. k;
       wrote = record { lent = refl; entries = wrote_itself };
     }
