@@ -97,6 +97,7 @@ module _ (c d : Check) (lent : d.entries.ghost_name ≡ c.entries.ghost_name) (r
   not_named a = record {
     refuses = λ words m q p. name_is words m q p ∙ not_read (λ y. Ch.name N y.words) (machine_of c.entries.now) a.is;
     text = a.text;
+    knowing = λ k. k;
     wrote = record { lent = refl; entries = wrote_itself };
   }
 
@@ -132,5 +133,6 @@ module _ (c d : Check) (lent : d.entries.ghost_name ≡ c.entries.ghost_name) (r
           ap (Ch.one N (rest r)) p.is ∙ (one_name N r.text.now r.at h e (machine_of (with_words (length noted) c.entries.now))
           ∙ not_read (λ y. Ch.name N y.words) (machine_of (with_words (length noted) c.entries.now)) (one_not_counted r.text.now r.at h z (length noted) a.is));
       text = a.text;
+      knowing = λ k. k;
       wrote = record { lent = refl; entries = wrote_itself };
     }

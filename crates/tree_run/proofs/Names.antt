@@ -34,7 +34,7 @@ use Rattle.tree_records.specs.Trees.{Stays}
 use Rattle.tree_records.specs.declared.State.{State}
 use Rattle.tree_records.specs.declared.Trees.{Trees}
 use Rattle.run.proofs.Readers.{moved}
-use Rattle.run.specs.Meaning.{Standing, Names, NotNamed, Plain, Fails}
+use Rattle.run.specs.Meaning.{AtName, Names, NotNamed, Plain, Fails}
 use Rattle.tree_run.specs.Meant.{Wrote, meant}
 use Rattle.tree_run.specs.Laws.{wrote_itself, lent_itself}
 use Rattle.tree_run.specs.declared.Reading.{Reading}
@@ -50,8 +50,8 @@ one_name N text at h e m =
     ∙ ap (λ (t : Text). then_run (W.identifier m.words t) (λ x. D.name N x.name x.words) m) (sym (front text at h)))
 
 -- room for the name
-pub name_room : {text : Text} {s : Reading} → Standing meant 1 text s → Inside s.trees.now.ws.now s.trees.now.n s.trees.now.state 5 1 1
-name_room p = let h = p.holds in record { small = h.small; long = h.long; charged = h.charged; room = omega (arith, h.room); deep = omega (arith, h.deep); kept = omega (arith, h.kept) }
+pub name_room : {r : Reader} {s : Reading} → AtName meant 1 r s → Inside s.trees.now.ws.now s.trees.now.n s.trees.now.state 5 1 1
+name_room p = let h = p.ready.holds in record { small = h.small; long = h.long; charged = h.charged; room = omega (arith, h.room); deep = omega (arith, h.deep); kept = omega (arith, h.kept) }
 
 -- AN IDENTIFIER that was read becomes a node: what was read, what is known then, and that the name can
 -- be spelled
@@ -125,12 +125,13 @@ module _ (s : Reading) (r : Reader) (h : r.at < length r.text.now) (e : digit (g
           let here : record r { at = x.to } ≡ r₁ = moved r r₁ a.text a.here in
           subst (λ (q : Reader). Plain meant (D.one N (rest r)) 1 r q s (record s { trees = record s.trees { now = t } }) x.from) here (read_to x.from x.to a.lies)
 
-  pub not_named : (after : Words) {r₁ : Reader} {x : Refusal} → Refuses (W.identifier (table r.text.now s.words) (rest r)) x r r₁ → NotNamed meant (D.one N (rest r)) 1 r r₁ s (record s { words = after }) x
-  not_named after a = record {
+  pub not_named : (after : Words) {r₁ : Reader} {x : Refusal} → Refuses (W.identifier (table r.text.now s.words) (rest r)) x r r₁ → Fitting r.text.now after → NotNamed meant (D.one N (rest r)) 1 r r₁ s (record s { words = after }) x
+  not_named after a f = record {
     refuses = λ words m q p.
         let read : W.identifier m.words (rest r) ≡ refused (number _) = ap (λ (ws : List Name). W.identifier ws (rest r)) (sym p.words ∙ sym q.is) ∙ a.is in
         refused_at N r.text.now r.at h e m read;
     text = a.text;
+    knowing = λ k. record { words = table r.text.now after; knows = record { is = refl; fitting = f } };
     wrote = record { trees = refl; wrote = wrote_itself s.trees.now };
   }
 
@@ -138,5 +139,6 @@ module _ (s : Reading) (r : Reader) (h : r.at < length r.text.now) (e : digit (g
   not_plain z a = record {
     fails = λ all m p. refused_at N r.text.now r.at h e m (one_refused r.text.now r.at h z m.words a.is);
     text = a.text;
+    knowing = λ k. k;
     wrote = lent_itself s;
   }

@@ -1,5 +1,5 @@
 use Rattle.std.proofs.lemmas.Result.{err_from_is_err_and}
-use Rattle.run.proofs.Chains.{standing_holding, item_done, item_fails, item_broken}
+use Rattle.run.proofs.Chains.{item_done, item_fails, item_broken}
 use Rattle.run.proofs.item.Goals as goal
 
 pub returns-in_err-copies : goal.returns-in_err-copies
@@ -8,7 +8,7 @@ returns-in_err-copies g c =
     rw (p.1, p.2) (item_broken g.M.Machine.meaning g.met.M.Machine.laws c.args.machine.now c.args.text.now c.in_err-copies.ensures.says c.in_err-copies.ensures.text)
 
 pub recall-requires : goal.recall-requires
-recall-requires g c = standing_holding g.M.Machine.meaning c.requires
+recall-requires g c = c.requires
 
 pub returns-in_err-recall : goal.returns-in_err-recall
 returns-in_err-recall g c =

@@ -10,7 +10,7 @@ returns-in_err-bytes c =
     (not_plain c.args.self.now c.args.text.now c.requires.0.inside c.requires.0.begins c.requires.1 c.in_err-bytes.ensures)
 
 pub push_name-requires : goal.push_name-requires
-push_name-requires c = (name_room c.requires.0.standing, omega (arith, c.requires.0.inside, c.requires.0.short))
+push_name-requires c = (name_room c.requires.0, omega (arith, c.requires.0.inside, c.requires.0.short))
 
 pub returns : goal.returns
 returns c =
