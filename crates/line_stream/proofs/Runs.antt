@@ -45,9 +45,9 @@ answering Next.Answer = 1
 answering Next.Done = 0
 
 -- After `made` steps: what was read and written, from the input i and the output w on. The answers
--- to what was read and to what follows it are what was written and what is owed. The steps are few:
--- `few` grows by at most what they read, since a step that reads nothing makes one of the terms
--- after `made` less.
+-- to what was read and to what follows it are what was written and what is owed. `few` bounds the
+-- steps: one that reads nothing makes the terms after `made` less, and one that reads n bytes makes
+-- the left side greater by at most 2 n.
 pub record Going (line : Text → List ℕ) (i i' w w' : Option (List ℕ)) (l : List ℕ) (s : State) (made : ℕ) : Type 0 where
   pub read : Text
   pub written : List ℕ
