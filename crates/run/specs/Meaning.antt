@@ -36,6 +36,8 @@ pub record Meaning (S : Type 0) : Type 1 where
   pub wrote : S → S → Type 0
   -- some machine of the definition is stored, whatever its words and names are, with that charge
   pub ready : (charge : ℕ) → S → Type 0
+  -- a name of one literal may begin at that place of a text
+  pub begins_at : ℕ → Type 0
 
 module _ {S : Type 0} (k : Meaning S) where
   -- the machine of the definition
@@ -52,7 +54,6 @@ module _ {S : Type 0} (k : Meaning S) where
     pub ready : k.ready charge s
     pub inside : r.at < length r.text.now
     pub begins : digit (get_or r.text.now r.at 0) ≡ true
-    pub short : length r.text.now ≤ 65535
     pub formed : well_formed r.text.now ≡ true
 
   -- THE STEPS: a turn's beginning, and copies of what is remembered
@@ -141,6 +142,8 @@ module _ {S : Type 0} (k : Meaning S) where
     pub less_ready : (s : S) → k.ready 1 s → k.ready 0 s
     -- the machine that is stored
     pub stored : (charge : ℕ) (text : Text) (noted : List Name) (s : S) (m : Machines) → k.holds charge text noted s m → k.ready charge s
+    -- every place of a text of a run
+    pub begins : (place : ℕ) → place < 65536 → k.begins_at place
     -- steps one after another, all with one ceiling
     pub itself : (s : S) → k.wrote s s
     pub both : (s t u : S) → k.wrote s t → k.wrote t u → k.wrote s u

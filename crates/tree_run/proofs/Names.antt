@@ -3,7 +3,7 @@ use Rattle.std.proofs.Common.{Bor}
 use mathlib.Core.Path.{◌≡◌, refl, sym, ap, subst, ◌∙◌}
 use mathlib.Core.Bool.{true, false}
 use mathlib.Core.List.{List, [], ◌∷◌, ◌++◌}
-use Prim.Native.Nat.{ℕ, ◌+◌, ◌≤◌, ◌<◌}
+use Prim.Native.Nat.{ℕ, ◌+◌, ◌<◌}
 use native.Mathlib.Omega.{arith}
 use lib.ListN.{length, get_or, drop}
 use Rattle.definition.specs.Base.{Name, is, digit, ok, refused}
@@ -56,11 +56,11 @@ name_room p = let h = p.ready.holds in record { small = h.small; long = h.long; 
 -- AN IDENTIFIER that was read becomes a node: what was read, what is known then, and that the name can
 -- be spelled
 module _ (N : ℕ) (text : Text) (at : ℕ) (l : at < length text) (e : digit (get_or text at 0) ≡ true) where
-  came : {w w₁ : List ℕ} {u v : State} (to : ℕ) (m : Demangler) (ws vs : Noted) (name : Name) → length text ≤ 65535 → Holds (names_of text ws) w N u full_spare m →
+  came : {w w₁ : List ℕ} {u v : State} (to : ℕ) (m : Demangler) (ws vs : Noted) (name : Name) → at < 65536 → Holds (names_of text ws) w N u full_spare m →
       Begins ws.words vs.words → W.identifier ws.all (drop at text) ≡ ok (W.identified name vs.all) (drop to text) → Looked (drop at text) vs.all vs.words →
       Kept w w₁ N u v (0 ∷ 1 ∷ 0 ∷ at ∷ 0 ∷ 0 ∷ 0 ∷ 0 ∷ []) → (m₁ : Demangler) × (D.one N (drop at text) m ≡ ok (drop to text) m₁) × Holds (names_of text vs) w₁ N v nothing_spare m₁
   unfolding then_run D.name M.know M.remember M.push kind size count view
-  came {w} {w₁} {u} {v} to m ws vs name short h b r z k =
+  came {w} {w₁} {u} {v} to m ws vs name low h b r z k =
       let x : Node = Identifier name in
       let known : m.words ≡ ws.all = sym h.words in
       let read : W.identifier m.words (drop at text) ≡ ok (W.identified name vs.all) (drop to text) = ap (λ (xs : List Name). W.identifier xs (drop at text)) known ∙ r in
@@ -82,7 +82,7 @@ module _ (s : Reading) (r : Reader) (h : r.at < length r.text.now) (e : digit (g
   abbrev N : ℕ
   N = s.trees.now.n
 
-  module _ (short : length r.text.now ≤ 65535) (t : Trees) (y : Stays s.trees.now t) (k : Kept s.trees.now.ws.now t.ws.now N s.trees.now.state t.state (0 ∷ 1 ∷ 0 ∷ r.at ∷ 0 ∷ 0 ∷ 0 ∷ 0 ∷ [])) where
+  module _ (low : r.at < 65536) (t : Trees) (y : Stays s.trees.now t) (k : Kept s.trees.now.ws.now t.ws.now N s.trees.now.state t.state (0 ∷ 1 ∷ 0 ∷ r.at ∷ 0 ∷ 0 ∷ 0 ∷ 0 ∷ [])) where
     wrote : Wrote s.trees.now t
     wrote = record { stays = y; beyond = record { past = k.keeps.past; long = k.keeps.long } }
 
@@ -93,7 +93,7 @@ module _ (s : Reading) (r : Reader) (h : r.at < length r.text.now) (e : digit (g
           let w = place a.is in
           let begins : Begins (table r.text.now s.words) known = identifier_begins (table r.text.now s.words) (rest r) (drop r₁.at r.text.now) (W.identified a.name known) w.is in
           let read : W.identifier words (rest r) ≡ ok (W.identified a.name known) (drop r₁.at r.text.now) = ap (λ (ws : List Name). W.identifier ws (rest r)) (sym q.is) ∙ w.is in
-          let o = came N r.text.now r.at h e r₁.at m (noted (table r.text.now s.words) words) (noted known known) a.name short p begins read (λ _. begins_refl known) k in
+          let o = came N r.text.now r.at h e r₁.at m (noted (table r.text.now s.words) words) (noted known known) a.name low p begins read (λ _. begins_refl known) k in
           record {
             words = known;
             knows = record { is = refl; fitting = f };
@@ -111,7 +111,7 @@ module _ (s : Reading) (r : Reader) (h : r.at < length r.text.now) (e : digit (g
         plain = λ all m p.
             let slice : Name = part r.text.now from to in
             let words : List Name = table r.text.now s.words in
-            let o = came N r.text.now r.at h e to m (noted words all) (noted words (W.note_words slice all)) slice short p (begins_refl words) (one_literal r.text.now r.at h z all a) (λ q. absurd (differ (sym q ∙ (peek_read r.text.now r.at (is "0") h ∙ z)))) k in
+            let o = came N r.text.now r.at h e to m (noted words all) (noted words (W.note_words slice all)) slice low p (begins_refl words) (one_literal r.text.now r.at h z all a) (λ q. absurd (differ (sym q ∙ (peek_read r.text.now r.at (is "0") h ∙ z)))) k in
             record { machine = o.0; is = o.1; holds = rw y.ceiling o.2 };
         knows = λ words q. q;
         some = a.some;

@@ -63,6 +63,7 @@ laws_met = record {
   less = λ text noted s m h. less_spare (room 1) (room 0) (omega arith) (omega arith) (omega arith) (omega arith) h;
   less_ready = λ s h. record { names = h.names; machine = h.machine; holds = less_spare (room 1) (room 0) (omega arith) (omega arith) (omega arith) (omega arith) h.holds };
   stored = λ charge text noted s m h. record { names = names_of text (NamesOf.noted (table text s.words) noted); machine = m; holds = h };
+  begins = λ place l. l;
   itself = λ s. lent_itself s;
   both = λ s t u a b. record { trees = b.trees ∙ a.trees; wrote = wrote_both s.trees.now t.trees.now u.trees.now a.wrote b.wrote };
   ceiling = λ s t a. a.wrote.stays.ceiling;

@@ -9,14 +9,15 @@ returns-in_err-begin g c =
     rw (p.1, p.2) (name_not_begun g.M.Machine.meaning g.met.M.Machine.laws c.args.text.now c.in_err-begin.ensures c.args.waiting.now)
 
 pub note-requires : goal.note-requires
-note-requires g c = (c.requires.0.short, c.requires.2)
+note-requires g c = (c.requires.1, c.requires.3)
 
 pub identifier-requires : goal.identifier-requires
 identifier-requires g c =
     let h = c.requires.0 in
     let b = c.in_ok-begin.ensures in (
-      record { ready = c.note.ensures.ready 1 (b.ready h.ready); inside = h.inside; begins = h.begins; short = h.short; formed = h.formed },
-      noted_knowing g.M.Machine.meaning g.met.M.Machine.laws c.note.ensures (begun_knowing g.M.Machine.meaning g.met.M.Machine.laws c.args.text.now b c.requires.1),
+      record { ready = c.note.ensures.ready 1 (b.ready h.ready); inside = h.inside; begins = h.begins; formed = h.formed },
+      c.requires.1,
+      noted_knowing g.M.Machine.meaning g.met.M.Machine.laws c.note.ensures (begun_knowing g.M.Machine.meaning g.met.M.Machine.laws c.args.text.now b c.requires.2),
     )
 
 pub returns : goal.returns

@@ -10,7 +10,7 @@ returns-in_err-begin g c =
 pub literal-requires : goal.literal-requires
 literal-requires g c =
     let h = c.requires.0 in
-    (record { ready = c.in_ok-begin.ensures.ready h.ready; inside = h.inside; begins = h.begins; short = h.short; formed = h.formed }, c.requires.1)
+    (record { ready = c.in_ok-begin.ensures.ready h.ready; inside = h.inside; begins = h.begins; formed = h.formed }, c.requires.1, c.requires.2)
 
 pub returns : goal.returns
 returns g c =

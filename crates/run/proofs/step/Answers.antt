@@ -12,7 +12,8 @@ returns-then-not-is_ascii_digit g c = step_on g.M.Machine.meaning c.args.text.no
 
 pub name_turn-requires : goal.name_turn-requires
 name_turn-requires g c = (
-  record { ready = c.requires.0; inside = c.requires.1; begins = sym c.if-not-is_ascii_digit.ensures.value; short = c.requires.2; formed = c.requires.3 },
+  record { ready = c.requires.0; inside = c.requires.1; begins = sym c.if-not-is_ascii_digit.ensures.value; formed = c.requires.3 },
+  c.requires.2,
   c.requires.4,
   c.requires.5,
 )
@@ -22,7 +23,8 @@ returns-then-b-eq48 g c = step_named g.M.Machine.meaning c.args.text.now c.args.
 
 pub plain_turn-requires : goal.plain_turn-requires
 plain_turn-requires g c = (
-  record { ready = c.requires.0; inside = c.requires.1; begins = sym c.if-not-is_ascii_digit.ensures.value; short = c.requires.2; formed = c.requires.3 },
+  record { ready = c.requires.0; inside = c.requires.1; begins = sym c.if-not-is_ascii_digit.ensures.value; formed = c.requires.3 },
+  g.met.M.Machine.laws.begins _ (omega (arith, c.requires.1, c.requires.2)),
   ne_eqb _ 48 c.if-b-eq48.false,
 )
 
