@@ -122,12 +122,8 @@ module _ (what : Final) (need N w : ℕ) (t : Text) where
         passes h a = tested ceiling_is long_is short_is h a
 
         -- 5, or what is read
-        pub read_from : ill_formed t ≡ none → (start end : ℕ) → end ≤ length t → Framed (framed what t) t start end →
-            Body (λ read. admit need N w t (framed what t read)) (record { start = start; body = take (end - start) (drop start t); suffix = take (length t - end) (drop end t) })
-        read_from h start end l b = record {
-          is = λ read. passes h (framed what t read) ∙ b.body.is read
-              ∙ ap (λ (u : Text). read (record { start = start; body = take (end - start) (drop start t); suffix = u })) (sym (take_all (length t - end) (drop end t) (omega (arith, length-drop end t))));
-        }
+        pub read_from : ill_formed t ≡ none → (start end : ℕ) → Framed (framed what t) t start end → (y : Symbol) → y ≡ Symbols.symbol t start end → Body (λ read. admit need N w t (framed what t read)) y
+        read_from h start end b y e = record { is = λ read. passes h (framed what t read) ∙ b.body.is read ∙ ap read (sym e) }
 
         pub no_body : ill_formed t ≡ none → Refused (framed what t) Refusal.Prefix 0 → Fails Refusal.Prefix 0
         no_body h b = record { is = λ read. passes h (framed what t read) ∙ b.is read }
@@ -135,3 +131,7 @@ module _ (what : Final) (need N w : ℕ) (t : Text) where
 -- what a call needs fits a number of 64 bits
 pub needed : (need N : ℕ) → need ≤ 64 → N ≤ 65536 → need * N ≤ 4194304
 needed need N h k = le_trans (mul-le-mul_right N h) (omega (arith, k))
+
+-- what follows a part of a text, as it is sliced
+pub part_is : (t : Text) (start end : ℕ) → end ≤ length t → record { start = start; body = take (end - start) (drop start t); suffix = take (length t - end) (drop end t) } ≡ Symbols.symbol t start end
+part_is t start end l = ap (λ (u : Text). record { start = start; body = take (end - start) (drop start t); suffix = u }) (take_all (length t - end) (drop end t) (omega (arith, length-drop end t)))

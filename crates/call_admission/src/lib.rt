@@ -5,9 +5,10 @@
 // What is read.
 pub mod admitted;
 
-ghost use Rattle.std.specs.Prelude.{◌≡◌, true, ◌≤◌};
+ghost use Rattle.std.specs.Prelude.{◌≡◌, true, ◌-◌, ◌≤◌, length, take, drop};
 ghost use Rattle.definition.specs.Text as Text;
-ghost use Rattle.call_admission.specs.Admits.{framed, Frames, Admits};
+ghost use Rattle.text_symbols.specs.Symbol as Symbols;
+ghost use Rattle.call_admission.specs.Admits.{framed, Frames, parts, Admits};
 
 use crate::admitted::Admitted;
 use definition::{Refusal, Refused};
@@ -29,6 +30,20 @@ fn parts_of(text: &[u8], what: Final) -> Option<Parts>
             start: 0,
             end: text.len(),
         }),
+    }
+}
+
+// Returns text[start..end], with what follows it, for a run with that ceiling.
+pub fn part(text: &[u8], start: usize, end: usize, ceiling: usize) -> Admitted
+    requires { (start ≤ end) × (end ≤ length text.now) × (length text.now ≤ 65535) × (ceiling ≤ 65536) × (Text.well_formed (take (end - start) (drop start text.now)) ≡ true) }
+    ensures symbol { parts result ≡ Symbols.symbol text.now start end }
+    ensures ceiling { result.ceiling ≡ ceiling }
+{
+    Admitted {
+        ceiling,
+        start,
+        body: &text[start..end],
+        suffix: &text[end..],
     }
 }
 
@@ -62,10 +77,5 @@ pub fn admit(
     let Some(Parts { start, end }) = parts_of(text, what) else {
         return Err(Refused::at_start(Refusal::Prefix));
     };
-    Ok(Admitted {
-        ceiling,
-        start,
-        body: &text[start..end],
-        suffix: &text[end..],
-    })
+    Ok(part(text, start, end, ceiling))
 }

@@ -5,8 +5,8 @@ use mathlib.Core.List.{List, [], ◌∷◌, ◌++◌, reverse, reverse-cons, app
 use Prim.Native.Nat.{ℕ, zero, suc, ◌+◌, ◌*◌, ◌≤◌, ◌<◌}
 use native.Mathlib.Omega.{arith}
 use native.Mathlib.Numerals.{add-one}
-use lib.ListN.{length, get_or, take, drop}
-use lib.Seq.{take-suc, length-take-le}
+use lib.ListN.{length, get_or, set, take, drop, length-set}
+use lib.Seq.{take-suc, paste, paste-zero, paste-suc, length-take-le}
 use Rattle.definition.specs.Base.{is_some}
 use Rattle.definition.specs.Shape as C
 use Rattle.definition.specs.Calls.{single, entry_numbers}
@@ -62,10 +62,30 @@ module _ (w : List ℕ) (d : ℕ) (h : 3 * d ≤ length w) where
   pub too_many : {out : List ℕ} → length out < 3 * d → TooMany (entry_numbers (reverse (stack_of w d))) out out
   too_many p = record { past = omega (arith, numbers_length); same = refl }
 
-  -- those numbers are at the front
-  pub all_numbers : {out : List ℕ} → 3 * d ≤ length out → Front (entry_numbers (reverse (stack_of w d))) out (take (3 * d) w ++ drop (3 * d) out) (3 * d)
-  all_numbers {out} l = record {
-    many = omega (arith, numbers_length);
-    within = l;
-    is = ap (λ (x : List ℕ). x ++ drop (3 * d) out) (sym (stack_numbers w d h));
-  }
+  -- that many numbers were copied to the front
+  pub all_numbers : {out out₁ : List ℕ} {n : ℕ} (i : ℕ) → n ≡ 3 * d → i ≡ n → n ≤ length out → out₁ ≡ paste out 0 w i → Front (entry_numbers (reverse (stack_of w d))) out out₁ n
+  all_numbers {out} {out₁} {n} i e k l q =
+      let z : i ≡ 3 * d = omega arith in
+      let y : 0 + i ≡ n = omega arith in
+      record {
+        many = omega (arith, numbers_length);
+        within = l;
+        is = q ∙ (ap (λ (x : ℕ). take i w ++ drop x out) y ∙ (ap (λ (x : ℕ). take x w ++ drop n out) z ∙ ap (λ (x : List ℕ). x ++ drop n out) (sym (stack_numbers w d h))));
+      }
+
+-- COPYING: i numbers of w are at the front of out
+pub record Copying (w out out₁ : List ℕ) (i : ℕ) : Type 0 where
+  pub is : out₁ ≡ paste out 0 w i
+  pub long : length out₁ ≡ length out
+
+pub no_numbers : (w out : List ℕ) → Copying w out out 0
+no_numbers w out = record { is = paste-zero out 0 w; long = refl }
+
+pub one_number : {w out out₁ : List ℕ} {i : ℕ} → Copying w out out₁ i → i < length w → i < length out → Copying w out (set out₁ i (get_or w i 0)) (i + 1)
+one_number {w} {out} {out₁} {i} c h l =
+    let z : i ≡ 0 + i = omega arith in
+    let k : 0 + i < length out = omega arith in
+    record {
+      is = ap (λ (o : List ℕ). set o i (get_or w i 0)) c.is ∙ (ap (λ (n : ℕ). set (paste out 0 w i) n (get_or w i 0)) z ∙ (paste-suc out 0 w i 0 k h ∙ ap (paste out 0 w) (sym (add-one i))));
+      long = length-set out₁ i (get_or w i 0) ∙ c.long;
+    }

@@ -29,6 +29,10 @@ pub fn write_stack(entries: &Entries, out: &mut [u32]) -> Option<usize>
     if out.len() < n {
         return None;
     }
-    out[..n].copy_from_slice(&entries.ws[..n]);
+    // Kept: an index, since the library's copy would need a function of the C library (`memmove`),
+    // and the archive needs none.
+    for i in 0..n {
+        out[i] = entries.ws[i];
+    }
     Some(n)
 }

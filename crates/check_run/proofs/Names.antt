@@ -3,7 +3,6 @@ use mathlib.Core.Path.{◌≡◌, refl, sym, ap, subst, ◌∙◌}
 use mathlib.Core.Bool.{true, false}
 use mathlib.Core.List.{List, ◌∷◌}
 use Prim.Native.Nat.{ℕ, ◌+◌, ◌<◌}
-use native.Mathlib.Omega.{arith}
 use lib.ListN.{length, get_or, drop}
 use Rattle.definition.specs.Base.{Name, is, digit, Out, ok, refused, Done, ret, and_then}
 use Rattle.definition.specs.Text.{Text}
@@ -13,10 +12,9 @@ use Rattle.definition.specs.Shape as C
 use Rattle.definition.specs.Shape.{Shapes}
 use Rattle.definition.specs.Calls.{then_run}
 use Rattle.definition.specs.Check as Ch
-use Rattle.definition.specs.Enums.{number}
 use Rattle.definition.specs.declared.Refusal.{Refusal}
 use Rattle.definition.proofs.WordsApart.{reworded}
-use Rattle.text_cursor.specs.Reads.{rest, Stands}
+use Rattle.text_cursor.specs.Reads.{rest, Stands, Refuses}
 use Rattle.text_cursor.specs.declared.Reader.{Reader}
 use Rattle.text_cursor.proofs.Steps.{front}
 use Rattle.text_identifiers.specs.Identifiers.{Lies, Taken}
@@ -95,9 +93,11 @@ module _ (c d : Check) (lent : d.entries.ghost_name ≡ c.entries.ghost_name) (r
     wrote = record { lent = lent; entries = g.wrote };
   }
 
-  pub not_named : {x : Refusal} → Ch.identifier c.entries.now.state.words (rest r) ≡ refused (number x) → NotNamed meant (Ch.one N (rest r)) 1 r c c x
+  pub not_named : {r₁ : Reader} {x : Refusal} → Refuses (Ch.identifier c.entries.now.state.words (rest r)) x r r₁ → NotNamed meant (Ch.one N (rest r)) 1 r r₁ c c x
   not_named a = record {
-    refuses = λ words m q p. name_is words m q p ∙ not_read (λ y. Ch.name N y.words) (machine_of c.entries.now) a;
+    refuses = λ words m q p. name_is words m q p ∙ not_read (λ y. Ch.name N y.words) (machine_of c.entries.now) a.is;
+    text = a.text;
+    knowing = λ k. k;
     wrote = record { lent = refl; entries = wrote_itself };
   }
 
@@ -127,10 +127,12 @@ module _ (c d : Check) (lent : d.entries.ghost_name ≡ c.entries.ghost_name) (r
         let here : record r { at = x.to } ≡ r₁ = moved r r₁ l.text l.here in
         subst (λ (y : Reader). Plain meant (Ch.one N (rest r)) 1 r y c d x.from) here (read_to x.from x.to l.lies g)
 
-    pub not_plain : {x : Refusal} → W.literal false (rest r) ≡ refused (number x) → Fails meant (Ch.one N (rest r)) 1 r c c x
+    pub not_plain : {r₁ : Reader} {x : Refusal} → Refuses (W.literal false (rest r)) x r r₁ → Fails meant (Ch.one N (rest r)) 1 r r₁ c c x
     not_plain a = record {
       fails = λ noted m p.
           ap (Ch.one N (rest r)) p.is ∙ (one_name N r.text.now r.at h e (machine_of (with_words (length noted) c.entries.now))
-          ∙ not_read (λ y. Ch.name N y.words) (machine_of (with_words (length noted) c.entries.now)) (one_not_counted r.text.now r.at h z (length noted) a));
+          ∙ not_read (λ y. Ch.name N y.words) (machine_of (with_words (length noted) c.entries.now)) (one_not_counted r.text.now r.at h z (length noted) a.is));
+      text = a.text;
+      knowing = λ k. k;
       wrote = record { lent = refl; entries = wrote_itself };
     }

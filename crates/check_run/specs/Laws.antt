@@ -59,6 +59,9 @@ past_all noted s m h times i l =
 pub laws_met : Laws meant
 laws_met = record {
   less = λ text noted c m h. record { is = h.is; sound = sound_less h.sound };
+  less_ready = λ c h. sound_less h;
+  stored = λ charge text noted c m h. h.sound;
+  begins = λ place l. tt;
   itself = λ c. record { lent = refl; entries = wrote_itself };
   both = λ c d e a b. record { lent = b.lent ∙ a.lent; entries = wrote_both a.entries b.entries };
   ceiling = λ c d a. a.entries.lent.ceiling;

@@ -38,4 +38,6 @@ meant = record {
   holds = λ charge text noted c m. Counts charge noted c.entries.now m;
   knows = λ text c words. c.entries.now.state.words ≡ length words;
   wrote = λ c d. Wrote c d;
+  begins_at = λ place. Unit;
+  ready = λ charge c. Sound charge c.entries.now;
 }

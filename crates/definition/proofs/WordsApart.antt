@@ -8,16 +8,20 @@ use mathlib.Core.Option.{Option, some, none}
 use Prim.Native.Nat.{ℕ, zero, suc}
 use lib.Dec.{eqb}
 use lib.ListN.{get_elem?}
-use Rattle.definition.specs.Base.{given, is_some, Out, ok, refused, Step, Done, ret, refuse, and_then, ◌>>=◌, Late, good, bad, judge}
+use Rattle.definition.specs.Base.{given, is_some, digit, Out, ok, refused, Step, Done, ret, refuse, and_then, ◌>>=◌, Late, good, bad, judge}
+use Rattle.definition.specs.Text.{Text}
 use Rattle.definition.specs.Kind as K
 use Rattle.definition.specs.Kind.{Entry}
 use Rattle.definition.specs.Operators as Op
+use Rattle.definition.specs.Operators.{operator}
 use Rattle.definition.specs.Budget as B
 use Rattle.definition.specs.Budget.{Budget}
 use Rattle.definition.specs.Machine as M
 use Rattle.definition.specs.Machine.{machine, restack, spent, spend, wrap, remember, recall, push, push_copies, rounds}
 use Rattle.definition.specs.Shape as C
 use Rattle.definition.specs.Shape.{Shapes, Check, Take, Taken, Leaves, Row, kind_of, pop_if, try, took, taking}
+use Rattle.definition.specs.Calls.{then_run, turn}
+use Rattle.definition.specs.Check.{one}
 
 -- WHAT IS STATED
 -- the machine with other words
@@ -218,7 +222,12 @@ independent_taking (C.requirements ∷ ts) a leave l = bind independent_rounds �
 independent_taking (C.refuses r ∷ ts) a leave l = independent_refuse r
 independent_taking (C.printed_ahead ∷ ts) a leave l = independent_taking ts _ leave l
 
--- ROWS
+-- ROWS AND TURNS
+independent_then_run : {A : Type 0} (o : Out Text A) (f : A → Check Done) → ((a : A) → Independent (f a)) → Independent (then_run o f)
+unfolding then_run
+independent_then_run (ok a u) f h = bind (h a) λ _. independent_ret u
+independent_then_run (refused r) f h = independent_refuse r
+
 module _ (N : ℕ) where
   independent_copied : (times : ℕ) (e : Entry) → Independent (C.copied N times e)
   unfolding C.copied
@@ -252,3 +261,24 @@ keeps_words f h m n q = go (sym q ∙ (h m.words m ∙ ap (reworded m.words) q))
   where
     go : ◌≡◌ {A = Out Shapes Done} (ok tt n) (ok tt (rewords m.words n)) → n.words ≡ m.words
     go d = let z : n ≡ rewords m.words n = cc in ap (λ (x : Shapes). x.words) z
+
+module _ (N c : ℕ) (t : Text) (e : digit c ≡ false) where
+  independent_one : Independent (one N (c ∷ t))
+  unfolding one
+  independent_one = rw (e, one) (independent_then_run (operator c t) (λ op. C.run_row N (C.row op)) λ op. independent_run_row N (C.row op))
+
+  independent_turn : Independent (turn N (one N) (c ∷ t))
+  unfolding turn
+  independent_turn = bind (independent_spend B.step) λ _. bind (independent_spend (B.charge N 1)) λ _. independent_one
+
+  -- a turn where the byte is not a digit has the same result with other words, and those are the
+  -- words after it
+  pub turn_apart : (w : ℕ) (m : Shapes) → turn N (one N) (c ∷ t) (rewords w m) ≡ reworded w (turn N (one N) (c ∷ t) m)
+  turn_apart w m = independent_turn.at w m
+
+  -- so it leaves the words unchanged, if it is not refused
+  pub turn_keeps_words : (m n : Shapes) (u : Text) → turn N (one N) (c ∷ t) m ≡ ok u n → n.words ≡ m.words
+  turn_keeps_words m n u q = go (sym q ∙ (turn_apart m.words m ∙ ap (reworded m.words) q))
+    where
+      go : ◌≡◌ {A = Out Shapes Text} (ok u n) (ok u (rewords m.words n)) → n.words ≡ m.words
+      go d = let z : n ≡ rewords m.words n = cc in ap (λ (x : Shapes). x.words) z

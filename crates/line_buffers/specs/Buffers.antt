@@ -1,10 +1,10 @@
 -- The input buffer: what is still to be answered, and the effect of reads, writes and turns on it.
 -- Assumes nothing.
-use Rattle.std.specs.Prelude.{◌≡◌, Bool, true, false, List, [], ◌++◌, ℕ, ◌+◌, ◌-◌, ◌≤◌, ◌<◌, eqb, Option, Result, Ok, Err, length, take, drop}
-use Rattle.std.specs.Io.KnownBytes.{Consumes}
+use Rattle.std.specs.Prelude.{◌≡◌, Bool, true, false, List, [], ◌++◌, ℕ, ◌+◌, ◌-◌, ◌^◌, ◌≤◌, ◌<◌, eqb, Option, Result, Ok, Err, IfSome, length, take, drop, codes}
+use Rattle.std.specs.Io.KnownBytes.{Appends, Consumes, IsAtEnd}
 use Rattle.definition.specs.Text.{Text}
 use Rattle.text_cursor.specs.Part.{part}
-use Rattle.line_forms.specs.Lines.{owed}
+use Rattle.line_forms.specs.Lines.{answers, owed}
 use Rattle.line_buffers.specs.declared.Next.{Next}
 use Rattle.line_buffers.specs.declared.Turn.{Turn}
 use Rattle.line_buffers.specs.declared.State.{State}
@@ -78,6 +78,7 @@ pub record Fetched (r r' : Option (List ℕ)) (l l' : List ℕ) (b s : State) : 
   pub within : s.end ≤ length l'
   pub same : take (b.end - b.from) l' ≡ kept l b
   pub read : Consumes r r' (part l' (b.end - b.from) s.end)
+  pub last : count ≡ 0 → IsAtEnd r'
 
 -- a failed read: what is kept is at the front
 abbrev pub Failing : (l l' : List ℕ) (b : State) → Failure → Type 0
@@ -109,24 +110,34 @@ fetched Next.Done l' b end = []
 
 -- What is owed for the bytes that were kept before the step, followed by those that it read and by
 -- u, is what the step wrote and what is owed for the bytes that are kept after it, followed by u.
--- The step made progress if another turn follows, and nothing is owed if the program is done.
+-- The buffer ends after the bytes that were kept and those that were read. The step made progress
+-- if another turn follows, and nothing is owed if the program is done.
 pub record Stepped (line : Text → List ℕ) (l l' o' : List ℕ) (b r : State) : Type 0 where
   pub long : length l' ≡ length l
   pub holds : Holds l' r
   pub fits : r.written ≤ length o'
   pub owes : (u : Text) → Follows r.ended u → due line l b (fetched b.next l' b r.end ++ u) ≡ take r.written o' ++ due line l' r u
   pub ended : b.ended ≡ true → (r.ended ≡ true) × (fetched b.next l' b r.end ≡ [])
+  pub grew : r.end ≡ begins b.next b + (b.end - b.from) + length (fetched b.next l' b r.end)
+  pub forward : begins b.next b ≤ r.from
   pub onward : r.next ≡ Next.Answer → begins b.next b < r.from
   pub done : r.next ≡ Next.Done → (r.ended ≡ true) × (due line l' r [] ≡ [])
 
--- the bytes that the step read are the input's next ones, where these are known
-abbrev pub Reading : Next → (i i' : Option (List ℕ)) → Text → Type 0
-Reading Next.Read i i' t = Consumes i i' t
-Reading Next.Answer i i' t = i' ≡ i
-Reading Next.Done i i' t = i' ≡ i
+-- The bytes that the step read are the input's next ones, where these are known. The input has ended
+-- once a read gives none of them.
+abbrev pub Reading : Next → (i i' : Option (List ℕ)) → Text → (ended ended' : Bool) → Type 0
+Reading Next.Read i i' t e e' = Consumes i i' t × (e' ≡ eqb (length t) 0) × (e' ≡ true → IsAtEnd i')
+Reading Next.Answer i i' t e e' = (i' ≡ i) × (e' ≡ e)
+Reading Next.Done i i' t e e' = (i' ≡ i) × (e' ≡ e)
 
 abbrev pub Took : (remaining remaining' : Option (List ℕ)) → (l' : List ℕ) → (b r : State) → Type 0
-Took i i' l' b r = Reading b.next i i' (fetched b.next l' b r.end)
+Took i i' l' b r = Reading b.next i i' (fetched b.next l' b r.end) b.ended r.ended
+
+-- A step that fails. A read fails only where input is to be read; then nothing is written, w being
+-- the output. A write fails only in a step that is otherwise right.
+abbrev pub Failed : {W : Type 0} → (Text → List ℕ) → (remaining remaining' : Option (List ℕ)) → (w w' : W) → (l l' o' : List ℕ) → (b : State) → Failure → Type 0
+Failed line i i' w w' l l' o' b Failure.Read = (b.next ≡ Next.Read) × (length l' ≡ length l) × Failing l l' b Failure.Read × (w' ≡ w)
+Failed line i i' w w' l l' o' b Failure.Write = (r : State) × Stepped line l l' o' b r × Took i i' l' b r
 
 -- A RUN
 -- Steps one after another, up to one after which nothing is owed; all that they read and all that
@@ -138,3 +149,15 @@ pub data Run (line : Text → List ℕ) : List ℕ → State → (read : Text) �
 -- before the first step
 abbrev pub start : State
 start = record { from = 0; end = 0; inside = false; ended = false; written = 0; next = Next.Read }
+
+-- A WHOLE INPUT
+-- Where the input is known and has fewer than 2 ^ 62 bytes, all of it is read, and the answers to it
+-- are appended to the output.
+abbrev pub AnsweredAll : (Text → List ℕ) → (remaining remaining' : Option (List ℕ)) → (output output' : Option (List ℕ)) → Type 0
+AnsweredAll line i i' w w' = IfSome i (λ t. length t < 2 ^ 62 → IsAtEnd i' × Appends w w' (answers line t))
+
+-- A FAILURE
+-- the line that reports it on standard error
+abbrev pub message : Failure → List ℕ
+message Failure.Read = codes "standard input cannot be read\n"
+message Failure.Write = codes "standard output cannot be written\n"

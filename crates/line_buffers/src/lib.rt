@@ -7,7 +7,7 @@
 
 ghost use Rattle.std.specs.Prelude.{◌≡◌, ◌+◌, ◌-◌, ◌≤◌, ◌<◌, ◌^◌, length};
 ghost use Rattle.line_forms.specs.Lines.{Clear};
-ghost use Rattle.line_buffers.specs.Buffers.{Resting, Passing, Holds, after_read, Filled, start};
+ghost use Rattle.line_buffers.specs.Buffers.{message, Resting, Passing, Holds, after_read, Filled, start};
 
 use line_forms::LINE;
 use line_forms::ends::line_end;
@@ -31,12 +31,21 @@ pub enum Failure {
     Write,
 }
 
+impl Failure {
+    // Returns the line that reports it, with its newline.
+    pub fn message(self) -> &'static str
+        ensures { result.now ≡ message self }
+    {
+        match self {
+            Failure::Read => "standard input cannot be read\n",
+            Failure::Write => "standard output cannot be written\n",
+        }
+    }
+}
+
 impl fmt::Display for Failure {
     fn fmt<W: fmt::Write>(&self, f: &mut fmt::Formatter<W>) -> fmt::Result {
-        match self {
-            Failure::Read => write!(f, "standard input cannot be read"),
-            Failure::Write => write!(f, "standard output cannot be written"),
-        }
+        f.write_str(self.message().trim_end())
     }
 }
 

@@ -3,15 +3,17 @@ use mathlib.Core.Path.{◌≡◌, refl, sym, ap, subst, ◌∙◌}
 use mathlib.Core.Bool.{Bool, true, false}
 use mathlib.Core.List.{List, [], ◌++◌, append_assoc, append-nil}
 use Rattle.std.specs.Prelude.{Option, Result, Ok}
+use Rattle.std.proofs.lemmas.Bool.{eqb-true}
 use Prim.Native.Nat.{ℕ, ◌+◌, ◌-◌, ◌≤◌}
 use native.Mathlib.Omega.{arith}
-use lib.ListN.{length, take, drop, length-drop}
+use lib.Dec.{eqb}
+use lib.ListN.{length, take, drop, length-append, length-drop}
 use lib.Seq.{take-add, drop_at, drop-drop, length-take-le}
 use Rattle.definition.specs.Text.{Text}
 use Rattle.text_cursor.specs.Part.{part}
 use Rattle.text_cursor.proofs.Parts.{part_length}
 use Rattle.line_forms.specs.Lines.{owed}
-use Rattle.line_buffers.specs.Buffers.{Goes, Turned, kept, due, Holds, Fetched, Filling, Filled, begins, fetched, Stepped, Reading, Took}
+use Rattle.line_buffers.specs.Buffers.{Goes, Turned, kept, due, Holds, Fetched, Filling, Filled, begins, fetched, Stepped, Reading, Took, Failed}
 use Rattle.line_buffers.specs.declared.Next.{Next}
 use Rattle.line_buffers.specs.declared.Turn.{Turn}
 use Rattle.line_buffers.specs.declared.State.{State}
@@ -77,15 +79,29 @@ module _ (r r' : Option (List ℕ)) (l l' : List ℕ) (b h : State) where
   ended_as Next.Done k q f e = (ap (λ (x : State). x.ended) (same_ok f.2) ∙ e, refl)
 
   -- what was read are the input's next bytes
-  took_as : (n : Next) → Filling n r r' l l' b (Ok h) → Reading n r r' (fetched n l' b h.end)
-  took_as Next.Read f = f.read
-  took_as Next.Answer f = f.0
-  took_as Next.Done f = f.0
+  took_read : Fetched r r' l l' b h → Reading Next.Read r r' (part l' (b.end - b.from) h.end) b.ended h.ended
+  took_read f =
+      let q : h.end ≡ b.end - b.from + f.count = ap (λ (x : State). x.end) f.is in
+      let k : length (part l' (b.end - b.from) h.end) ≡ f.count = omega (arith, part_length l' (b.end - b.from) h.end f.within) in
+      let e : h.ended ≡ eqb f.count 0 = ap (λ (x : State). x.ended) f.is in
+      (f.read, e ∙ ap (λ (n : ℕ). eqb n 0) (sym k), λ z. f.last (eqb-true f.count 0 (sym e ∙ z)))
+
+  took_as : (n : Next) → Filling n r r' l l' b (Ok h) → Reading n r r' (fetched n l' b h.end) b.ended h.ended
+  took_as Next.Read f = took_read f
+  took_as Next.Answer f = (f.0, ap (λ (x : State). x.ended) (same_ok f.2))
+  took_as Next.Done f = (f.0, ap (λ (x : State). x.ended) (same_ok f.2))
 
 -- what is owed before a read is owed after it
 came_owed : (line : Text → List ℕ) {n : Next} {l l' : List ℕ} {b h : State} → Came n l l' b h → (u : Text) → due line l b (fetched n l' b h.end ++ u) ≡ due line l' h u
 came_owed line {n} {l} {l'} {b} {h} c u =
     ap (owed line b.inside) (sym (append_assoc (kept l b) (fetched n l' b h.end) u)) ∙ ap (λ (x : Text). owed line b.inside (x ++ u)) (sym c.joined) ∙ ap (λ (i : Bool). owed line i (kept l' h ++ u)) (sym c.inside)
+
+-- the buffer ends after what was kept and what was read
+came_grew : {n : Next} {l l' : List ℕ} {b h : State} → Holds l b → Came n l l' b h → h.end ≡ begins n b + (b.end - b.from) + length (fetched n l' b h.end)
+came_grew {n} {l} {l'} {b} {h} k c =
+    let q : h.end - h.from ≡ (b.end - b.from) + length (fetched n l' b h.end) =
+    sym (part_length l' h.from h.end c.within) ∙ ap length c.joined ∙ length-append (kept l b) (fetched n l' b h.end) ∙ ap (λ (m : ℕ). m + length (fetched n l' b h.end)) (part_length l b.from b.end k.within) in
+    omega (arith, q, c.start, c.order)
 
 -- THE STEP
 module _ {R : Type 0} {remaining : R → Option (List ℕ)} {i i' : R} {l l' : List ℕ} {b h : State} (k : Holds l b) (f : Filled remaining i i' l l' b (Ok h)) where
@@ -126,8 +142,14 @@ module _ {R : Type 0} {remaining : R → Option (List ℕ)} {i i' : R} {l l' : L
       owes = λ u j.
           came_owed line came u ∙ x.owes u j ∙ ap (λ (y : Text). take t.written o' ++ owed line t.inside (y ++ u)) left;
       ended = ended_as _ _ _ _ _ _ b.next k refl f.filling;
+      grew = came_grew k came;
+      forward = omega (arith, came.start);
       onward = λ e. omega (arith, goes_as Next.Answer e, came.start);
       done = λ e.
           let g = goes_as Next.Done e in
           (g.0, ap (owed line t.inside) (append-nil (part l' (h.from + t.read) h.end) ∙ sym left) ∙ g.1);
     }
+
+    -- what was to be written is right where the write fails
+    pub failed_write : {W : Type 0} (w w' : W) → Failed line (remaining i) (remaining i') w w' l l' o' b Failure.Write
+    failed_write w w' = (_, stepped, took)

@@ -24,8 +24,13 @@ first_operator = next >>= Op.operator
 abbrev pub IsChain : Reader → Type 0
 IsChain r = rest r ≡ 65 ∷ drop (r.at + 1) r.text.now
 
--- the operator that begins at `old`. It is refused as in the definition, and so is the letter `A`,
--- whose items the run reads
+-- no operator begins there: it is refused as in the definition, and so is the letter `A`, whose items
+-- the run reads. The reader keeps its text
+pub record NoneBegins (old new : Reader) (f : Refusal) : Type 0 where
+  pub is : IsChain old ⊎ (first_operator (rest old) ≡ refused (Enums.number f))
+  pub text : new.text ≡ old.text
+
+-- the operator that begins at `old`
 abbrev pub Begins : Reader → Reader → Result Operator Refusal → Type 0
 Begins old new (Ok q) = Stands (first_operator (rest old)) (Enums.operator fixed q) 1 old new
-Begins old new (Err f) = IsChain old ⊎ (first_operator (rest old) ≡ refused (Enums.number f))
+Begins old new (Err f) = NoneBegins old new f

@@ -157,5 +157,5 @@ item_on new t i true e k l h = record { index = h.index; same = h.same; is = e �
 
 -- an item of a chain that goes on as another, from an earlier place
 pub copied_on : {go go' : Text → Chain} {old mid new : Reader} {r : Result Copies Refusal} → go (rest old) ≡ go' (rest mid) → mid.text ≡ old.text → old.at ≤ mid.at → Copied go' mid new r → Copied go old new r
-copied_on {new = new} {r = Ok x} e t l h = record { says = item_on new x.times x.index x.last e t l h.says }
-copied_on {r = Err f} e t l h = let b = h.says in record { says = record { rest = b.rest; is = e ∙ b.is } }
+copied_on {new = new} {r = Ok x} e t l h = record { says = item_on new x.times x.index x.last e t l h.says; text = h.text ∙ t }
+copied_on {r = Err f} e t l h = let b = h.says in record { says = record { rest = b.rest; is = e ∙ b.is }; text = h.text ∙ t }

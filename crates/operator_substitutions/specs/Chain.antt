@@ -90,6 +90,8 @@ abbrev pub Item : Chain → Reader → Reader → ℕ → ℕ → Bool → Type 
 Item ch old new t i false = Begins ch t i old new
 Item ch old new t i true = Ends ch t i old new
 
--- the next item of the letters at `old`, of which `go` makes a chain
+-- the next item of the letters at `old`, of which `go` makes a chain. If there is none, the reader
+-- keeps its text too
 pub record Copied (go : Text → Chain) (old new : Reader) (r : Result Copies Refusal) : Type 0 where
   pub says : MatchResult r (λ x. Item (go (rest old)) old new x.times x.index x.last) (λ f. Breaks (go (rest old)) (number f))
+  pub text : new.text ≡ old.text

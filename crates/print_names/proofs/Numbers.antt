@@ -47,6 +47,18 @@ module _ (text : Text) (w : Words) {k : ℕ} {n : Name} where
   named_fixed h (spelled words r u l e b q) = absurd (omega arith)
   named_fixed h (is-fixed l m e) = e
 
+  -- no identifier begins at the end of the text
+  pub offset_in : k < 65536 → Named (naming text w) k n → k ≤ length text
+  offset_in h a = by_test (ltb (length text) k) refl
+    where
+      by_test : (b : Bool) → ltb (length text) k ≡ b → k ≤ length text
+      by_test false e = ltb-false (length text) k e
+      by_test true e =
+          let s = named_spells h a in
+          let l : length text < k = ltb-true (length text) k e in
+          let d : drop k text ≡ [] = drop_past k text (omega arith) in
+          absurd (nothing_there s.words s.read s.rest (ap (W.identifier s.words) (sym d) ∙ s.is))
+
 module _ (s : Source) {k : ℕ} {o o' : Sink} where
   pub puts_spelled : k < 65536 → Spelled s.text.now s.words.now k o o' → Puts (Named (naming_of s) k) o o'
   puts_spelled l a = record { same = a.same; room = a.room; len = a.len; each = λ n h. a.is n (named_spells s.text.now s.words.now l h) }

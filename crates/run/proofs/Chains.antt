@@ -15,21 +15,18 @@ use Rattle.definition.specs.declared.Refusal.{Refusal}
 use Rattle.text_cursor.specs.Reads.{rest}
 use Rattle.text_cursor.specs.declared.Reader.{Reader}
 use Rattle.operator_substitutions.specs.Chain.{Chain, ended, chain, outcome, Same, Begins, Ends, Breaks, Item}
-use Rattle.run.specs.Meaning.{Meaning, Machines, Standing, Holding, recalled, Does, Refuses, Fails, Laws}
+use Rattle.run.specs.Meaning.{Meaning, Machines, Knowing, recalled, Does, Refuses, Fails, Laws}
 use Rattle.run.specs.Turns.{Reaches, chained, Goes, Letters}
 
--- what some machine stands for
-pub standing_holding : {S : Type 0} (k : Meaning S) {j : ℕ} {text : Text} {s : S} → Standing k j text s → Holding k j s
-standing_holding k {text = text} h = record { text = text; noted = h.noted; machine = h.machine; holds = h.holds }
-
 -- the same text, as a reader has it later
-pub standing_text : {S : Type 0} (k : Meaning S) {j : ℕ} {b c : Bor (List ℕ)} {s : S} → b ≡ c → Standing k j b.now s → Standing k j c.now s
-standing_text k {j} {s = s} e h = subst (λ (x : Bor (List ℕ)). Standing k j x.now s) e h
+pub knowing_text : {S : Type 0} (k : Meaning S) {b c : Bor (List ℕ)} {s : S} → b ≡ c → Knowing k b.now s → Knowing k c.now s
+knowing_text k {s = s} e h = subst (λ (x : Bor (List ℕ)). Knowing k x.now s) e h
+
+-- words that were known are known
+pub knowing_on : {S : Type 0} (k : Meaning S) {text text₁ : Text} {s t : S} → ((words : List Name) → k.knows text s words → k.knows text₁ t words) → Knowing k text s → Knowing k text₁ t
+knowing_on k f h = record { words = h.words; knows = f h.words h.knows }
 
 module _ {S : Type 0} (k : Meaning S) (l : Laws k) where
-  pub standing_less : {text : Text} {s : S} → Standing k 1 text s → Standing k 0 text s
-  standing_less {text} {s} h = record { words = h.words; noted = h.noted; machine = h.machine; knows = h.knows; holds = l.less text h.noted s h.machine h.holds }
-
   -- ONE ITEM
   module _ (s : S) (r : Reader) where
     abbrev N : ℕ
@@ -57,6 +54,7 @@ module _ {S : Type 0} (k : Meaning S) (l : Laws k) where
           go : (b : Bool) → Item (chain (rest r)) r r₁ t i b → Letters k r r₁ s u (Ok b)
           go false a = record {
             goes = λ noted m h. let o = d.does r.text.now noted m h in record { machine = o.machine; is = begins_is m a o.is; holds = o.holds };
+            ready = d.ready;
             knows = d.knows r.text.now;
             text = a.text;
             inside = a.inside;
@@ -71,27 +69,27 @@ module _ {S : Type 0} (k : Meaning S) (l : Laws k) where
             wrote = d.wrote;
           }
 
-      pub item_fails : {u : S} {x : Refusal} → Refuses k (recalled k N t i) 0 s u x → Fails k (chained k N (rest r)) 0 r s u x
+      pub item_fails : {u : S} {x : Refusal} → Refuses k (recalled k N t i) 0 s u x → Fails k (chained k N (rest r)) 0 r r₁ s u x
       item_fails {u} {x} d = go b g
         where
-          go : (b : Bool) → Item (chain (rest r)) r r₁ t i b → Fails k (chained k N (rest r)) 0 r s u x
-          go false a = record { fails = λ noted m h. begins_is m a (d.refuses r.text.now noted m h); wrote = d.wrote }
-          go true a = record { fails = λ noted m h. ends_is m h a (d.refuses r.text.now noted m h); wrote = d.wrote }
+          go : (b : Bool) → Item (chain (rest r)) r r₁ t i b → Fails k (chained k N (rest r)) 0 r r₁ s u x
+          go false a = record { fails = λ noted m h. begins_is m a (d.refuses r.text.now noted m h); text = a.text; knowing = d.knowing r.text.now; wrote = d.wrote }
+          go true a = record { fails = λ noted m h. ends_is m h a (d.refuses r.text.now noted m h); text = a.text; knowing = d.knowing r.text.now; wrote = d.wrote }
 
-    pub item_broken : {x : Refusal} → Breaks (chain (rest r)) (number x) → Fails k (chained k N (rest r)) 0 r s s x
-    item_broken {x} b = record { fails = λ noted m h. ap (λ (ch : Chain). then_run (outcome ch) (k.performs N) m) b.is ∙ l.broken_item N (number x) b.rest m; wrote = l.itself s }
+    pub item_broken : {r₁ : Reader} {x : Refusal} → Breaks (chain (rest r)) (number x) → r₁.text ≡ r.text → Fails k (chained k N (rest r)) 0 r r₁ s s x
+    item_broken {x = x} b q = record { fails = λ noted m h. ap (λ (ch : Chain). then_run (outcome ch) (k.performs N) m) b.is ∙ l.broken_item N (number x) b.rest m; text = q; knowing = λ h. h; wrote = l.itself s }
 
 -- ALL ITEMS: the remaining work from here has the same result as the whole
 pub record Chaining {S : Type 0} (k : Meaning S) (r₀ r : Reader) (s t : S) : Type 0 where
   pub goes : (noted : List Name) (m : Machines k) → k.holds 0 r₀.text.now noted s m → (m₁ : Machines k) × (chained k (k.ceiling s) (rest r₀) m ≡ chained k (k.ceiling t) (rest r) m₁) × k.holds 0 r.text.now noted t m₁
   pub knows : (words : List Name) → k.knows r₀.text.now s words → k.knows r.text.now t words
-  pub standing : Standing k 0 r.text.now t
+  pub ready : k.ready 0 t
   pub text : r.text ≡ r₀.text
   pub wrote : k.wrote s t
 
 module _ {S : Type 0} (k : Meaning S) (l : Laws k) where
-  pub chain_first : {r : Reader} {s : S} → Standing k 0 r.text.now s → Chaining k r r s s
-  chain_first {s = s} h = record { goes = λ noted m q. (m, refl, q); knows = λ words q. q; standing = h; text = refl; wrote = l.itself s }
+  pub chain_first : {r : Reader} {s : S} → k.ready 0 s → Chaining k r r s s
+  chain_first {s = s} h = record { goes = λ noted m q. (m, refl, q); knows = λ words q. q; ready = h; text = refl; wrote = l.itself s }
 
   holds_text : {b c : Bor (List ℕ)} (noted : List Name) (v : S) (m : Machines k) → b ≡ c → k.holds 0 b.now noted v m → k.holds 0 c.now noted v m
   holds_text noted v m e q = subst (λ (x : Bor (List ℕ)). k.holds 0 x.now noted v m) e q
@@ -110,9 +108,7 @@ module _ {S : Type 0} (k : Meaning S) (l : Laws k) where
             holds_text noted u b.machine (sym g.text) b.holds,
           );
       knows = λ words q. knows_text words u (sym g.text) (g.knows words (h.knows words q));
-      standing =
-          let b = g.goes h.standing.noted h.standing.machine h.standing.holds in
-          standing_text k (sym g.text) (record { words = h.standing.words; noted = h.standing.noted; machine = b.machine; knows = g.knows h.standing.words h.standing.knows; holds = b.holds });
+      ready = g.ready h.ready;
       text = g.text ∙ h.text;
       wrote = l.both s t u h.wrote g.wrote;
     }
@@ -129,9 +125,11 @@ module _ {S : Type 0} (k : Meaning S) (l : Laws k) where
       wrote = l.both s t u h.wrote g.wrote;
     }
 
-  pub chain_refused : {r₀ r : Reader} {s t u : S} {x : Refusal} → Chaining k r₀ r s t → Fails k (chained k (k.ceiling t) (rest r)) 0 r t u x → Fails k (chained k (k.ceiling s) (rest r₀)) 0 r₀ s u x
+  pub chain_refused : {r₀ r r₁ : Reader} {s t u : S} {x : Refusal} → Chaining k r₀ r s t → Fails k (chained k (k.ceiling t) (rest r)) 0 r r₁ t u x → Fails k (chained k (k.ceiling s) (rest r₀)) 0 r₀ r₁ s u x
   chain_refused {s = s} {t = t} {u = u} h g = record {
     fails = λ noted m q. let a = h.goes noted m q in a.1 ∙ g.fails noted a.0 a.2;
+    text = g.text ∙ h.text;
+    knowing = λ q. knowing_text k h.text (g.knowing (knowing_on k h.knows q));
     wrote = l.both s t u h.wrote g.wrote;
   }
 

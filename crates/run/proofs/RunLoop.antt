@@ -18,105 +18,45 @@ use Rattle.text_cursor.specs.Reads.{rest}
 use Rattle.text_cursor.specs.declared.Reader.{Reader}
 use Rattle.text_words.specs.Waits.{Waiting, Waits, More}
 use Rattle.text_words.proofs.Later.{noted_nothing}
-use Rattle.run.specs.Meaning.{Meaning, Machines, Standing, begun, Does, Refuses, Notes, Naming, Plain, Fails, Laws}
-use Rattle.run.specs.Turns.{Turning, behind, Turned, NotTurned, Stepping, runs, Starts, Ran, Stops}
-use Rattle.run.proofs.OneOperator.{turn_not, turn_then}
+use Rattle.run.specs.Meaning.{Meaning, Machines, Knowing, Plain, Fails, Laws}
+use Rattle.run.specs.Turns.{Turning, turn_at, behind, Turned, NotTurned, Stepping, NameTurning, runs, Starts, Ran, Stops}
 
--- ONE TURN
-module _ {S : Type 0} (k : Meaning S) (l : Laws k) (r : Reader) where
-  -- it is refused at its beginning
-  pub step_not : {s t : S} {x : Refusal} (q : Waiting) → Refuses k (begun k (k.ceiling s)) 0 s t x → NotTurned k r q s t x
-  step_not q b = record { refuses = λ words m p h. turn_not k l r b (behind k r.text.now q words) m h; wrote = b.wrote }
+-- ONE TURN, and the literals that wait after it
+module _ {S : Type 0} (k : Meaning S) (r : Reader) (s u : S) (q : Waiting) where
+  pub step_not : {r₁ : Reader} {x : Refusal} → Fails k (turn_at k r s) 0 r r₁ s u x → NotTurned k r r₁ q s u x
+  step_not g = record { refuses = λ words m p h. g.fails (behind k r.text.now q words) m h; text = g.text; knowing = g.knowing; wrote = g.wrote }
 
-  module _ (r₁ : Reader) {s t : S} (b : Does k (begun k (k.ceiling s)) 0 1 s t) (u : S) (q : Waiting) where
-    -- an operator that is no name: the literals keep waiting
-    pub step_on : Waits r.text.now q → (o : Result Done Refusal) → Turning k (k.one (k.ceiling t) (rest r)) 1 r r₁ t u o → Stepping k r r₁ q q s u o
-    step_on w (Ok x) g = record {
-      turned = λ words m p h.
-          let all : List Name = behind k r.text.now q words in
-          let d = b.does r.text.now all m h in
-          let a = g.reaches all d.machine d.holds in
-          record { words = words; knows = g.knows words (b.knows r.text.now words p); after = record { machine = a.machine; is = turn_then k l r b all m h ∙ a.is; holds = a.holds } };
-      text = g.text;
-      inside = g.inside;
-      waits = w;
-      wrote = l.both s t u b.wrote g.wrote;
-    }
-    step_on w (Err x) g = record {
-      refuses = λ words m p h.
-          let all : List Name = behind k r.text.now q words in
-          let d = b.does r.text.now all m h in
-          turn_then k l r b all m h ∙ g.fails all d.machine d.holds;
-      wrote = l.both s t u b.wrote g.wrote;
-    }
+  -- an operator that is no name: the literals keep waiting
+  pub step_on : (r₁ : Reader) → Waits r.text.now q → (o : Result Done Refusal) → Turning k (turn_at k r s) 0 r r₁ s u o → Stepping k r r₁ q q s u o
+  step_on r₁ w (Ok x) g = record {
+    turned = λ words m p h. record { words = words; knows = g.knows words p; after = g.reaches (behind k r.text.now q words) m h };
+    text = g.text;
+    inside = g.inside;
+    waits = w;
+    wrote = g.wrote;
+  }
+  step_on r₁ w (Err x) g = step_not g
 
-    -- an identifier that may use words: those of all waiting literals are noted before it, and none
-    -- waits after it
-    pub step_named : {v : S} → Notes k r.text.now q t v → (p : Waiting) → p.count ≡ 0 → ((c : Text) → Waits c p) → (o : Result Done Refusal) → Naming k (k.one (k.ceiling v) (rest r)) 1 r r₁ v u o → Stepping k r r₁ q p s u o
-    step_named {v} n p z w (Ok x) g = record {
-      turned = λ words m e h.
-          let all : List Name = behind k r.text.now q words in
-          let d = b.does r.text.now all m h in
-          let known = b.knows r.text.now words e in
-          let a = g.names all d.machine (n.knows words known) (n.holds 1 words all d.machine known d.holds) in
-          record {
-            words = a.words;
-            knows = a.knows;
-            after = record {
-              machine = a.after.machine;
-              is = turn_then k l r b all m h ∙ (ap (λ (N : ℕ). k.one N (rest r) d.machine) (sym (l.ceiling t v n.wrote)) ∙ a.after.is);
-              holds = subst (λ (ws : List Name). k.holds 0 r.text.now ws u a.after.machine) (sym (noted_nothing W.note_words r.text.now p a.words z)) a.after.holds;
-            };
-          };
-      text = g.text;
-      inside = g.inside;
-      waits = w r.text.now;
-      wrote = l.both s v u (l.both s t v b.wrote n.wrote) g.wrote;
-    }
-    step_named {v} n p z w (Err x) g = record {
-      refuses = λ words m e h.
-          let all : List Name = behind k r.text.now q words in
-          let d = b.does r.text.now all m h in
-          let known = b.knows r.text.now words e in
-          turn_then k l r b all m h ∙ (ap (λ (N : ℕ). k.one N (rest r) d.machine) (sym (l.ceiling t v n.wrote))
-          ∙ g.refuses all d.machine (n.knows words known) (n.holds 1 words all d.machine known d.holds));
-      wrote = l.both s v u (l.both s t v b.wrote n.wrote) g.wrote;
-    }
+  -- a name that may use words
+  pub step_named : (r₁ : Reader) (p : Waiting) (o : Result Done Refusal) → NameTurning k r r₁ q p s u o → Stepping k r r₁ q p s u o
+  step_named r₁ p (Ok x) g = g.turned
+  step_named r₁ p (Err x) g = g
 
-    -- a name of one literal, which waits after the others
-    pub step_plain : (p : Waiting) {from : ℕ} → Plain k (k.one (k.ceiling t) (rest r)) 1 r r₁ t u from → More r.text.now from r₁.at q p → Turned k r r₁ q p s u
-    step_plain p g w = record {
-      turned = λ words m e h.
-          let all : List Name = behind k r.text.now q words in
-          let d = b.does r.text.now all m h in
-          let a = g.plain all d.machine d.holds in
-          record {
-            words = words;
-            knows = g.knows words (b.knows r.text.now words e);
-            after = record {
-              machine = a.machine;
-              is = turn_then k l r b all m h ∙ a.is;
-              holds = subst (λ (ws : List Name). k.holds 0 r.text.now ws u a.machine) (sym (w.words words)) a.holds;
-            };
-          };
-      text = g.text;
-      inside = g.inside;
-      waits = w.waits;
-      wrote = l.both s t u b.wrote g.wrote;
-    }
-
-    pub step_not_plain : {x : Refusal} → Fails k (k.one (k.ceiling t) (rest r)) 1 r t u x → NotTurned k r q s u x
-    step_not_plain g = record {
-      refuses = λ words m e h.
-          let all : List Name = behind k r.text.now q words in
-          let d = b.does r.text.now all m h in
-          turn_then k l r b all m h ∙ g.fails all d.machine d.holds;
-      wrote = l.both s t u b.wrote g.wrote;
-    }
-
--- what the words of the waiting literals add to
-pub noted_standing : {S : Type 0} (k : Meaning S) {text : Text} {q : Waiting} {s t : S} → Notes k text q s t → Standing k 1 text s → Standing k 1 text t
-noted_standing k {text} {q} n h = record { words = behind k text q h.words; noted = h.noted; machine = h.machine; knows = n.knows h.words h.knows; holds = n.holds 1 h.words h.noted h.machine h.knows h.holds }
+  -- a name of one literal, which waits after the others
+  pub step_plain : (r₁ : Reader) (p : Waiting) {from : ℕ} → Plain k (turn_at k r s) 0 r r₁ s u from → More r.text.now from r₁.at q p → Turned k r r₁ q p s u
+  step_plain r₁ p g w = record {
+    turned = λ words m e h.
+        let a = g.plain (behind k r.text.now q words) m h in
+        record {
+          words = words;
+          knows = g.knows words e;
+          after = record { machine = a.machine; is = a.is; holds = subst (λ (ws : List Name). k.holds 0 r.text.now ws u a.machine) (sym (w.words words)) a.holds };
+        };
+    text = g.text;
+    inside = g.inside;
+    waits = w.waits;
+    wrote = g.wrote;
+  }
 
 -- THE LOOP: i turns are done, and the rest has the same result as the whole
 pub record Running {S : Type 0} (k : Meaning S) (n : ℕ) (body : Text) (s t : S) (i : ℕ) (r : Reader) (q : Waiting) : Type 0 where
@@ -145,8 +85,11 @@ module _ {S : Type 0} (k : Meaning S) (l : Laws k) where
   }
 
   module _ {n : ℕ} {body : Text} {s t : S} {i : ℕ} {r : Reader} {q : Waiting} (h : Running k n body s t i r q) where
-    pub run_standing : Standing k 0 r.text.now t
-    run_standing = record { words = h.words; noted = behind k r.text.now q h.words; machine = h.machine; knows = h.knows; holds = h.holds }
+    pub run_knowing : Knowing k r.text.now t
+    run_knowing = record { words = h.words; knows = h.knows }
+
+    pub run_ready : k.ready 0 t
+    run_ready = l.stored 0 r.text.now (behind k r.text.now q h.words) t h.machine h.holds
 
     pub run_over : length r.text.now ≤ r.at → Ran k n body s t
     run_over e = record {
@@ -190,8 +133,8 @@ module _ {S : Type 0} (k : Meaning S) (l : Laws k) where
             wrote = l.both s t u h.wrote g.wrote;
           }
 
-      pub run_stopped : {u : S} {x : Refusal} → NotTurned k r q t u x → Stops k n body s u (record { refusal = x; place = r.at })
-      run_stopped {u} {x} g = record {
+      pub run_stopped : {r₁ : Reader} {u : S} {x : Refusal} → NotTurned k r r₁ q t u x → Stops k n body s u (record { refusal = x; place = r.at })
+      run_stopped {u = u} {x = x} g = record {
         is = h.is ∙ (stops (turn (k.ceiling t) (k.one (k.ceiling t))) r.text.now r.at e h.machine (n - i) (n - (i + 1)) one_less (number x) (g.refuses h.words h.machine h.knows h.holds)
             ∙ ap (λ (b : Text). stopped (number x) (length b - r.at)) h.text);
         inside = omega (arith, ap (λ (b : Text). length b) h.text);

@@ -34,33 +34,26 @@ pub record Meaning (S : Type 0) : Type 1 where
   pub knows : Text → S → List Name → Type 0
   -- a step from the first to the second writes only what it may
   pub wrote : S → S → Type 0
+  -- some machine of the definition is stored, whatever its words and names are, with that charge
+  pub ready : (charge : ℕ) → S → Type 0
+  -- a name of one literal may begin at that place of a text
+  pub begins_at : ℕ → Type 0
 
 module _ {S : Type 0} (k : Meaning S) where
   -- the machine of the definition
   abbrev pub Machines : Type 0
   Machines = Machine k.Item k.Noted
 
-  -- some machine is held
-  pub record Holding (charge : ℕ) (s : S) : Type 0 where
-    pub text : Text
-    pub noted : List Name
-    pub machine : Machines
-    pub holds : k.holds charge text noted s machine
-
-  -- with words of the text
-  pub record Standing (charge : ℕ) (text : Text) (s : S) : Type 0 where
+  -- names may use some words of the text
+  pub record Knowing (text : Text) (s : S) : Type 0 where
     pub words : List Name
-    pub noted : List Name
-    pub machine : Machines
     pub knows : k.knows text s words
-    pub holds : k.holds charge text noted s machine
 
-  -- and a name of a body begins at the reader's place
-  pub record AtName (r : Reader) (s : S) : Type 0 where
-    pub standing : Standing 1 r.text.now s
+  -- a machine is stored, and a name of a body begins at the reader's place
+  pub record AtName (charge : ℕ) (r : Reader) (s : S) : Type 0 where
+    pub ready : k.ready charge s
     pub inside : r.at < length r.text.now
     pub begins : digit (get_or r.text.now r.at 0) ≡ true
-    pub short : length r.text.now ≤ 65535
     pub formed : well_formed r.text.now ≡ true
 
   -- THE STEPS: a turn's beginning, and copies of what is remembered
@@ -79,11 +72,13 @@ module _ {S : Type 0} (k : Meaning S) where
   -- for each machine that s holds
   pub record Does (f : Step Machines Done) (i j : ℕ) (s t : S) : Type 0 where
     pub does : (text : Text) (noted : List Name) (m : Machines) → k.holds i text noted s m → After f tt text noted j t m
+    pub ready : k.ready i s → k.ready j t
     pub knows : (text : Text) (words : List Name) → k.knows text s words → k.knows text t words
     pub wrote : k.wrote s t
 
   pub record Refuses (f : Step Machines Done) (i : ℕ) (s t : S) (x : Refusal) : Type 0 where
     pub refuses : (text : Text) (noted : List Name) (m : Machines) → k.holds i text noted s m → f m ≡ refused (number x)
+    pub knowing : (text : Text) → Knowing text s → Knowing text t
     pub wrote : k.wrote s t
 
   abbrev pub Steps : Step Machines Done → (i j : ℕ) → (s t : S) → Result Done Refusal → Type 0
@@ -94,6 +89,7 @@ module _ {S : Type 0} (k : Meaning S) where
   pub record Notes (text : Text) (q : Waiting) (s t : S) : Type 0 where
     pub knows : (words : List Name) → k.knows text s words → k.knows text t (noted_behind W.note_words text q words)
     pub holds : (charge : ℕ) (words noted : List Name) (m : Machines) → k.knows text s words → k.holds charge text noted s m → k.holds charge text noted t m
+    pub ready : (charge : ℕ) → k.ready charge s → k.ready charge t
     pub wrote : k.wrote s t
 
   -- A NAME: the words that are known after it are those that the machine has noted
@@ -108,13 +104,15 @@ module _ {S : Type 0} (k : Meaning S) where
     pub inside : r₁.at ≤ length r₁.text.now
     pub wrote : k.wrote s t
 
-  pub record NotNamed (f : Step Machines Text) (i : ℕ) (r : Reader) (s t : S) (x : Refusal) : Type 0 where
+  pub record NotNamed (f : Step Machines Text) (i : ℕ) (r r₁ : Reader) (s t : S) (x : Refusal) : Type 0 where
     pub refuses : (words : List Name) (m : Machines) → k.knows r.text.now s words → k.holds i r.text.now words s m → f m ≡ refused (number x)
+    pub text : r₁.text ≡ r.text
+    pub knowing : Knowing r.text.now s → Knowing r.text.now t
     pub wrote : k.wrote s t
 
   abbrev pub Naming : Step Machines Text → ℕ → (r r₁ : Reader) → (s t : S) → Result Done Refusal → Type 0
   Naming f i r r₁ s t (Ok u) = Names f i r r₁ s t
-  Naming f i r r₁ s t (Err x) = NotNamed f i r s t x
+  Naming f i r r₁ s t (Err x) = NotNamed f i r r₁ s t x
 
   -- a name of one literal, from a place to the reader's new one: the machine of the definition notes
   -- its words, whatever it has noted before, and names may use the same words as before
@@ -126,19 +124,26 @@ module _ {S : Type 0} (k : Meaning S) where
     pub inside : r₁.at ≤ length r₁.text.now
     pub wrote : k.wrote s t
 
-  -- a step on a text that is refused
-  pub record Fails (f : Step Machines Text) (i : ℕ) (r : Reader) (s t : S) (x : Refusal) : Type 0 where
+  -- a step on a text that is refused: the reader keeps its text
+  pub record Fails (f : Step Machines Text) (i : ℕ) (r r₁ : Reader) (s t : S) (x : Refusal) : Type 0 where
     pub fails : (noted : List Name) (m : Machines) → k.holds i r.text.now noted s m → f m ≡ refused (number x)
+    pub text : r₁.text ≡ r.text
+    pub knowing : Knowing r.text.now s → Knowing r.text.now t
     pub wrote : k.wrote s t
 
   abbrev pub PlainNaming : Step Machines Text → ℕ → (r r₁ : Reader) → (s t : S) → Result ℕ Refusal → Type 0
   PlainNaming f i r r₁ s t (Ok from) = Plain f i r r₁ s t from
-  PlainNaming f i r r₁ s t (Err x) = Fails f i r s t x
+  PlainNaming f i r r₁ s t (Err x) = Fails f i r r₁ s t x
 
   -- WHAT EACH MACHINE MEETS
   pub record Laws : Type 0 where
     -- a charge need not be used
     pub less : (text : Text) (noted : List Name) (s : S) (m : Machines) → k.holds 1 text noted s m → k.holds 0 text noted s m
+    pub less_ready : (s : S) → k.ready 1 s → k.ready 0 s
+    -- the machine that is stored
+    pub stored : (charge : ℕ) (text : Text) (noted : List Name) (s : S) (m : Machines) → k.holds charge text noted s m → k.ready charge s
+    -- every place of a text of a run
+    pub begins : (place : ℕ) → place < 65536 → k.begins_at place
     -- steps one after another, all with one ceiling
     pub itself : (s : S) → k.wrote s s
     pub both : (s t u : S) → k.wrote s t → k.wrote t u → k.wrote s u

@@ -12,7 +12,7 @@ use Rattle.operator_substitutions.specs.Chain.{chain, outcome}
 use Rattle.text_cursor.specs.Reads.{rest}
 use Rattle.text_cursor.specs.declared.Reader.{Reader}
 use Rattle.text_words.specs.Waits.{Waiting, Waits, noted_behind}
-use Rattle.run.specs.Meaning.{Meaning, Machines, After, Fails}
+use Rattle.run.specs.Meaning.{Meaning, Machines, Knowing, After, Fails}
 
 module _ {S : Type 0} (k : Meaning S) where
   -- AN OPERATOR on the rest of a text
@@ -25,7 +25,7 @@ module _ {S : Type 0} (k : Meaning S) where
 
   abbrev pub Turning : Step (Machines k) Text → ℕ → (r r₁ : Reader) → (s t : S) → Result Done Refusal → Type 0
   Turning f i r r₁ s t (Ok u) = Reaches f i r r₁ s t
-  Turning f i r r₁ s t (Err x) = Fails k f i r s t x
+  Turning f i r r₁ s t (Err x) = Fails k f i r r₁ s t x
 
   -- `A` with these letters after it
   abbrev pub chained : (N : ℕ) → Text → Step (Machines k) Text
@@ -39,6 +39,7 @@ module _ {S : Type 0} (k : Meaning S) where
 
   pub record Goes (r r₁ : Reader) (s t : S) : Type 0 where
     pub goes : (noted : List Name) (m : Machines k) → k.holds 0 r.text.now noted s m → Went (k.ceiling s) r r₁ noted t m
+    pub ready : k.ready 0 s → k.ready 0 t
     pub knows : (words : List Name) → k.knows r.text.now s words → k.knows r.text.now t words
     pub text : r₁.text ≡ r.text
     pub inside : r₁.at ≤ length r₁.text.now
@@ -49,7 +50,7 @@ module _ {S : Type 0} (k : Meaning S) where
   abbrev pub Letters : (r r₁ : Reader) → (s t : S) → Result Bool Refusal → Type 0
   Letters r r₁ s t (Ok false) = Goes r r₁ s t
   Letters r r₁ s t (Ok true) = Reaches (chained (k.ceiling s) (rest r)) 0 r r₁ s t
-  Letters r r₁ s t (Err x) = Fails k (chained (k.ceiling s) (rest r)) 0 r s t x
+  Letters r r₁ s t (Err x) = Fails k (chained (k.ceiling s) (rest r)) 0 r r₁ s t x
 
   -- A TURN, with the literals whose words are not noted yet
   abbrev pub turn_at : Reader → S → Step (Machines k) Text
@@ -72,13 +73,24 @@ module _ {S : Type 0} (k : Meaning S) where
     pub waits : Waits r.text.now q₁
     pub wrote : k.wrote s t
 
-  pub record NotTurned (r : Reader) (q : Waiting) (s t : S) (x : Refusal) : Type 0 where
+  pub record NotTurned (r r₁ : Reader) (q : Waiting) (s t : S) (x : Refusal) : Type 0 where
     pub refuses : (words : List Name) (m : Machines k) → k.knows r.text.now s words → k.holds 0 r.text.now (behind r.text.now q words) s m → turn_at r s m ≡ refused (number x)
+    pub text : r₁.text ≡ r.text
+    pub knowing : Knowing k r.text.now s → Knowing k r.text.now t
     pub wrote : k.wrote s t
 
   abbrev pub Stepping : (r r₁ : Reader) → (q q₁ : Waiting) → (s t : S) → Result Done Refusal → Type 0
   Stepping r r₁ q q₁ s t (Ok u) = Turned r r₁ q q₁ s t
-  Stepping r r₁ q q₁ s t (Err x) = NotTurned r q s t x
+  Stepping r r₁ q q₁ s t (Err x) = NotTurned r r₁ q s t x
+
+  -- a turn that performs a name, after which no literal waits
+  pub record NameTurned (r r₁ : Reader) (q q₁ : Waiting) (s t : S) : Type 0 where
+    pub turned : Turned r r₁ q q₁ s t
+    pub none : q₁.count ≡ 0
+
+  abbrev pub NameTurning : (r r₁ : Reader) → (q q₁ : Waiting) → (s t : S) → Result Done Refusal → Type 0
+  NameTurning r r₁ q q₁ s t (Ok u) = NameTurned r r₁ q q₁ s t
+  NameTurning r r₁ q q₁ s t (Err x) = NotTurned r r₁ q s t x
 
   -- A RUN
   -- n turns of the definition over the body

@@ -2,9 +2,15 @@
 // have no `requires`: every text, ceiling, k and slice is answered as the definition answers it.
 #![tactic(auto)]
 
-ghost use Rattle.std.specs.Prelude.{length};
+// The reading of a part of a text.
+pub mod body;
+
+ghost use Rattle.std.specs.Prelude.{◌*◌, ◌≤◌, length};
+ghost use Rattle.definition.specs.Calls as Calls;
 ghost use Rattle.definition.specs.Reading as Reading;
 ghost use Rattle.definition.specs.Enums as Enums;
+ghost use Rattle.machine.specs.Beyond.{Beyond};
+ghost use Rattle.machine.specs.RunEnds.{kinds_of};
 ghost use Rattle.call_admission.specs.Admits.{parts};
 ghost use Rattle.call_endings.specs.Answers.{Answers};
 ghost use Rattle.call_endings.specs.Workspace.{Scratch};
@@ -46,6 +52,37 @@ fn finish(trees: &Trees, words: &Words, what: Final, admitted: Admitted, out: &m
     measured(trees.state.budget, n, room)
 }
 
+// Reads all of the body, and writes its text to the front of out.
+fn read_admitted(admitted: Admitted, what: Final, workspace: &mut [u32], out: &mut [u8]) -> Answer
+    requires { 64 * admitted.ceiling ≤ length workspace.old }
+    ensures { Answers (Calls.within (length out.old) (Reading.whole admitted.entry.ceiling (kinds_of what) (parts admitted.entry))) out.old out.new result × Beyond 64 admitted.entry.ceiling workspace.old workspace.new }
+{
+    let mut trees = Trees::new(workspace, admitted.ceiling);
+    let mut words = Words::new();
+    if let Err(refused) = run(admitted.body, Budget::ALL_TURNS, &mut trees, &mut words) {
+        return Err(admitted.in_text(refused));
+    }
+    finish(&trees, &words, what, admitted, out)
+}
+
+// Reads the first k operators of the body, and writes the entries of the stack.
+fn read_stopped_admitted(
+    admitted: Admitted,
+    k: usize,
+    workspace: &mut [u32],
+    out: &mut [u32],
+) -> Answer
+    requires { 64 * admitted.ceiling ≤ length workspace.old }
+    ensures { Answers (Calls.within (length out.old) (Reading.stopped_after admitted.entry.ceiling k (parts admitted.entry))) out.old out.new result × Beyond 64 admitted.entry.ceiling workspace.old workspace.new }
+{
+    let mut trees = Trees::new(workspace, admitted.ceiling);
+    if let Err(refused) = run(admitted.body, k, &mut trees, &mut Words::new()) {
+        return Err(admitted.in_text(refused));
+    }
+    let written = write_stack(&trees, out);
+    stacked(trees.state.budget, written)
+}
+
 // Reads a symbol or a type, and writes its text to the front of out.
 pub fn read(
     text: &[u8],
@@ -57,12 +94,7 @@ pub fn read(
     ensures { Answers (read_whole what text.now ceiling (length workspace.old) (length out.old)) out.old out.new result × Scratch 64 ceiling (Enums.values result).number workspace.old workspace.new }
 {
     let admitted = admit(text, what, ceiling, NEED, workspace.len())?;
-    let mut trees = Trees::new(workspace, ceiling);
-    let mut words = Words::new();
-    if let Err(refused) = run(admitted.body, Budget::ALL_TURNS, &mut trees, &mut words) {
-        return Err(admitted.in_text(refused));
-    }
-    finish(&trees, &words, what, admitted, out)
+    read_admitted(admitted, what, workspace, out)
 }
 
 // Reads the first k operators of a symbol or of a type, and writes the entries of the stack to the
@@ -78,12 +110,7 @@ pub fn read_stopped(
     ensures { Answers (read_stopped what text.now ceiling k (length workspace.old) (length out.old)) out.old out.new result × Scratch 64 ceiling (Enums.values result).number workspace.old workspace.new }
 {
     let admitted = admit(text, what, ceiling, NEED, workspace.len())?;
-    let mut trees = Trees::new(workspace, ceiling);
-    if let Err(refused) = run(admitted.body, k, &mut trees, &mut Words::new()) {
-        return Err(admitted.in_text(refused));
-    }
-    let written = write_stack(&trees, out);
-    stacked(trees.state.budget, written)
+    read_stopped_admitted(admitted, k, workspace, out)
 }
 
 // Kept: the four functions below are the Rust module's own, with its names and its parameters. Each

@@ -33,10 +33,10 @@ module _ {A B : Type 0} {mean : B → A} {m : Lex A} {least : ℕ} {old new : Re
   -- what is read from `mid` on was read from `old` on, if the step on the rest of `old` comes to the
   -- step on the rest of `mid`
   pub reads_on : {m' : Lex A} {least' : ℕ} {mid : Reader} {r : Result B Refusal} → m (rest old) ≡ m' (rest mid) → mid.text ≡ old.text → old.at + least ≤ mid.at + least' → Reads mean least' m' mid new r → Reads mean least m old new r
-  reads_on {r = Ok b} e t l h = record { says = record { is = e ∙ h.says.is; text = h.says.text ∙ t; inside = h.says.inside; onward = omega arith } }
-  reads_on {r = Err f} e t l h = record { says = e ∙ h.says }
+  reads_on {r = Ok b} e t l h = record { says = record { is = e ∙ h.says.is; text = h.says.text ∙ t; inside = h.says.inside; onward = omega arith }; text = h.text ∙ t }
+  reads_on {r = Err f} e t l h = record { says = e ∙ h.says; text = h.text ∙ t }
 
   -- what `?` hands on
-  pub refused_on : {D : Type 0} {s : Result D Refusal} {f : Refusal} {r : Result B Refusal} → s ≡ Err f → m (rest old) ≡ refused (number f) → IsErrAnd r (λ g. g ≡ f) → Reads mean least m old new r
-  refused_on {r = Ok b} w e h = absurd h
-  refused_on {r = Err g} w e h = record { says = e ∙ ap (λ (x : Refusal). refused (number x)) (sym h) }
+  pub refused_on : {D : Type 0} {s : Result D Refusal} {f : Refusal} {r : Result B Refusal} → s ≡ Err f → m (rest old) ≡ refused (number f) → new.text ≡ old.text → IsErrAnd r (λ g. g ≡ f) → Reads mean least m old new r
+  refused_on {r = Ok b} w e t h = absurd h
+  refused_on {r = Err g} w e t h = record { says = e ∙ ap (λ (x : Refusal). refused (number x)) (sym h); text = t }

@@ -1,5 +1,5 @@
 -- The steps of the definition at a place of a text. Assumes nothing.
-use mathlib.Core.Path.{◌≡◌, refl, sym, ap, ◌∙◌}
+use mathlib.Core.Path.{◌≡◌, sym, ap, ◌∙◌}
 use mathlib.Core.Bool.{Bool, true, false, ◌&&◌}
 use mathlib.Core.List.{[], ◌∷◌}
 use Prim.Native.Nat.{ℕ, ◌+◌, ◌-◌, ◌*◌, ◌^◌, ◌≤◌, ◌<◌}
@@ -9,7 +9,7 @@ use borrow.Author.Tests.{lt-ltb, leb-true}
 use lib.Dec.{leb}
 use lib.ListN.{length, get_or, drop, drop_of_length-le}
 use lib.Seq.{drop-cons}
-use Rattle.definition.specs.Base.{Out, ok, refused, is, digit, and_then}
+use Rattle.definition.specs.Base.{Out, ok, refused, digit, and_then}
 use Rattle.definition.specs.Text.{Text, peek, next_if, digits, natural}
 
 -- the text from a place on begins with the byte there, or is empty

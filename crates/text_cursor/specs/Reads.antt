@@ -32,9 +32,15 @@ pub record Stands {A : Type 0} (out : Out Text A) (a : A) (least : ℕ) (old new
   pub onward : old.at + least ≤ new.at
 
 -- r is the result of the step m on the rest of `old`, where b represents the value `mean b`: the step
--- takes at least so many bytes, or is refused as r is
+-- takes at least so many bytes, or is refused as r is. Either way the reader keeps its text
 pub record Reads {A B : Type 0} (mean : B → A) (least : ℕ) (m : Lex A) (old new : Reader) (r : Result B Refusal) : Type 0 where
   pub says : MatchResult r (λ b. Stands (m (rest old)) (mean b) least old new) (λ f. m (rest old) ≡ refused (number f))
+  pub text : new.text ≡ old.text
+
+-- the outcome is the refusal f, and the reader keeps its text
+pub record Refuses {A : Type 0} (out : Out Text A) (f : Refusal) (old new : Reader) : Type 0 where
+  pub is : out ≡ refused (number f)
+  pub text : new.text ≡ old.text
 
 -- a step that takes one byte or more, and gives a number or a parameter
 abbrev pub ReadsNumber : Lex ℕ → Reader → Reader → Result ℕ Refusal → Type 0

@@ -4,20 +4,20 @@ use mathlib.Core.Bool.{Bool, true, false, not}
 use mathlib.Core.List.{List, [], ◌∷◌, ◌++◌}
 use Prim.Native.Nat.{ℕ, zero, suc, ◌+◌, ◌-◌, ◌≤◌, ◌<◌}
 use native.Mathlib.Omega.{arith}
-use lib.ListN.{length, drop, length-drop}
+use lib.ListN.{length, drop, length-drop, length-append}
 use lib.Seq.{length-take-le}
 use Rattle.definition.specs.Base.{Name, is, Out, ok, refused}
 use Rattle.definition.specs.Text.{Text, next_if}
 use Rattle.definition.specs.Words as W
 use Rattle.definition.specs.Check as C
-use Rattle.definition.proofs.WordsAdded.{Long, WellKept}
+use Rattle.definition.proofs.WordsAdded.{Begins, Long, WellKept, identifier_begins}
 use Rattle.std.specs.Prelude.{Result, Ok, Err}
 use denote.Ref.{Bor}
 use Rattle.definition.specs.declared.Refusal.{Refusal}
 use Rattle.text_cursor.specs.declared.Reader.{Reader}
 use Rattle.text_cursor.specs.Reads.{rest, Stands}
 use Rattle.text_words.specs.declared.spans.Span.{Span}
-use Rattle.text_words.specs.Table.{Words, span_at, word_of, words_of, table, Fitting, Lists}
+use Rattle.text_words.specs.Table.{Words, span_at, spans_of, word_of, words_of, table, Fitting, Lists}
 use Rattle.text_words.proofs.Keeping.{table_length}
 use Rattle.text_words.proofs.Counting.{some_words, some_many}
 use Rattle.text_identifiers.specs.Rounds.{Got, got, named, identifier_of}
@@ -42,7 +42,7 @@ long_words text s (suc n) h k =
 
 pub well_kept : (text : Text) (w : Words) → Fitting text w → WellKept (table text w)
 well_kept text w g = record {
-  long = long_words text w.spans w.count g.inside g.long;
+  long = long_words text (spans_of w) w.count g.inside g.long;
   few = rw (← table_length text w) g.few;
 }
 
@@ -60,9 +60,9 @@ pub fuel_enough : {old mid : Reader} → mid.text ≡ old.text → old.at ≤ mi
 fuel_enough {old} {mid} t h = rw (t, length-drop old.at old.text.now) (omega arith)
 
 -- what is found from `mid` on was found from `old` on
-pub finds_on : (stands : List Name → Type 0) {o o' : Out Text (Got (List Name))} (old mid new : Reader) (r : Result Unit Refusal) → o ≡ o' → mid.text ≡ old.text → old.at ≤ mid.at → Finds stands o' mid new r → Finds stands o old new r
-finds_on stands old mid new (Ok u) e t l h = record { words = h.words; met = h.met; is = record { is = e ∙ h.is.is; text = h.is.text ∙ t; inside = h.is.inside; onward = omega (arith, h.is.onward) } }
-finds_on stands old mid new (Err f) e t l h = record { words = h.words; met = h.met; is = e ∙ h.is }
+pub finds_on : (stands : List Name → Type 0) (first : List Name) {o o' : Out Text (Got (List Name))} (old mid new : Reader) (r : Result Unit Refusal) → o ≡ o' → mid.text ≡ old.text → old.at ≤ mid.at → Finds stands first o' mid new r → Finds stands first o old new r
+finds_on stands first old mid new (Ok u) e t l h = record { words = h.words; met = h.met; is = record { is = e ∙ h.is.is; text = h.is.text ∙ t; inside = h.is.inside; onward = omega (arith, h.is.onward) } }
+finds_on stands first old mid new (Err f) e t l h = record { words = h.words; met = h.met; begins = h.begins; is = record { is = e ∙ h.is.is; text = h.is.text ∙ t } }
 
 -- WHAT THE RESULTS SAY
 module _ (old new : Reader) where
@@ -86,14 +86,18 @@ module _ (old new : Reader) where
   refused_is g (ok i v) e = absurd (let y : ◌≡◌ {A = ℕ} 0 1 = cc in omega arith)
   refused_is g (refused m) e = cc
 
-  pub identifies : (w w' : Words) → Fitting old.text.now w → (r : Result Unit Refusal) → Finds (Lists old.text.now w') (identifier_of length W.note_words (table old.text.now w) (rest old)) old new r → Identifies (W.identifier (table old.text.now w) (rest old)) old new w' r
-  identifies w w' g (Ok u) h = record {
-    answer = named_is w' (W.identifier (table old.text.now w) (rest old)) (sym (table_alike (table old.text.now w) (rest old) (well_kept old.text.now w g)) ∙ h.is.is) h.met.is refl h.is.text h.is.inside h.is.onward;
-    fitting = h.met.fitting;
-  }
+  pub identifies : (w w' : Words) → Fitting old.text.now w → (r : Result Unit Refusal) → Finds (Lists old.text.now w') (table old.text.now w) (identifier_of length W.note_words (table old.text.now w) (rest old)) old new r → Identifies (W.identifier (table old.text.now w) (rest old)) old new w w' r
+  identifies w w' g (Ok u) h =
+      let a : Named (W.identifier (table old.text.now w) (rest old)) old new w' = named_is w' (W.identifier (table old.text.now w) (rest old)) (sym (table_alike (table old.text.now w) (rest old) (well_kept old.text.now w g)) ∙ h.is.is) h.met.is refl h.is.text h.is.inside h.is.onward in
+      record {
+        answer = a;
+        fitting = h.met.fitting;
+        begins = identifier_begins (table old.text.now w) (rest old) (rest new) (W.identified a.name (table old.text.now w')) a.is.is;
+      }
   identifies w w' g (Err f) h = record {
-    answer = refused_is table_got (W.identifier (table old.text.now w) (rest old)) (sym (table_alike (table old.text.now w) (rest old) (well_kept old.text.now w g)) ∙ h.is);
+    answer = record { is = refused_is table_got (W.identifier (table old.text.now w) (rest old)) (sym (table_alike (table old.text.now w) (rest old) (well_kept old.text.now w g)) ∙ h.is.is); text = h.is.text };
     fitting = h.met.fitting;
+    begins = subst (λ (ws : List Name). Begins (table old.text.now w) ws) (sym h.met.is) h.begins;
   }
 
   count_is : (out : Out Text C.Identified) {n : ℕ} {u : Text} → map_out count_got out ≡ ok (got false n) u → out ≡ ok (C.identified false n) u
@@ -105,20 +109,25 @@ module _ (old new : Reader) where
       ap (λ (x : Bool). ok (C.identified x i.words) v) b ∙ ap (λ (m : ℕ). ok (C.identified false m) v) s ∙ ap (λ (x : Text). ok (C.identified false n) x) y
   count_is (refused m) e = absurd (let y : ◌≡◌ {A = ℕ} 0 1 = cc in omega arith)
 
-  pub counts : (n n' : ℕ) (r : Result Unit Refusal) → ((ws : List Name) → n ≡ length ws → Finds (λ vs. n' ≡ length vs) (identifier_of length W.note_words ws (rest old)) old new r) → Counted (C.identifier n (rest old)) old new n' r
+  pub counts : (n n' : ℕ) (r : Result Unit Refusal) → ((ws : List Name) → n ≡ length ws → Finds (λ vs. n' ≡ length vs) ws (identifier_of length W.note_words ws (rest old)) old new r) → Counted (C.identifier n (rest old)) old new n n' r
   counts n n' r h = go r (h (some_words n) (some_many n))
     where
       alike : map_out count_got (C.identifier n (rest old)) ≡ map_out length_got (identifier_of length W.note_words (some_words n) (rest old))
       alike = sym (count_alike n (rest old)) ∙ ap (λ (m : ℕ). identifier_of (λ (k : ℕ). k) (C.count_words_from 0 0) m (rest old)) (some_many n) ∙ identifier_counted (some_words n) (rest old)
 
-      go : (r : Result Unit Refusal) → Finds (λ vs. n' ≡ length vs) (identifier_of length W.note_words (some_words n) (rest old)) old new r → Counted (C.identifier n (rest old)) old new n' r
+      go : (r : Result Unit Refusal) → Finds (λ vs. n' ≡ length vs) (some_words n) (identifier_of length W.note_words (some_words n) (rest old)) old new r → Counted (C.identifier n (rest old)) old new n n' r
       go (Ok u) h = record {
         is = count_is (C.identifier n (rest old)) (alike ∙ ap (map_out length_got) h.is.is ∙ ap (λ (m : ℕ). ok (got false m) (rest new)) (sym h.met));
         text = h.is.text;
         inside = h.is.inside;
         onward = h.is.onward;
       }
-      go (Err f) h = refused_is count_got (C.identifier n (rest old)) (alike ∙ ap (map_out length_got) h.is)
+      go (Err f) h =
+          let more : length h.words ≡ length (some_words n) + length h.begins.more = ap (λ (ws : List Name). length ws) h.begins.all ∙ length-append (some_words n) h.begins.more in
+          record {
+            refuses = record { is = refused_is count_got (C.identifier n (rest old)) (alike ∙ ap (map_out length_got) h.is.is); text = h.is.text };
+            grown = omega (arith, more, h.met, some_many n);
+          }
 
 -- FOR CALLERS
 -- the place that a reader stands at, in the text that it was given

@@ -10,14 +10,14 @@ use Rattle.definition.specs.Text.{Text, next_if}
 use Rattle.definition.specs.Words as W
 use Rattle.definition.specs.Words.{literal, is_empty}
 use Rattle.definition.specs.Check as C
-use Rattle.definition.specs.Enums.{number}
 use Rattle.definition.specs.declared.Refusal.{Refusal}
+use Rattle.definition.proofs.WordsAdded.{begins_refl}
 use Rattle.text_cursor.proofs.Steps.{next_if_leaves}
 use Rattle.text_words.specs.Table.{part}
 use Rattle.text_words.proofs.Parts.{part_length}
 use Rattle.text_identifiers.specs.Rounds.{takes, round, got, named}
 use Rattle.text_cursor.specs.declared.Reader.{Reader}
-use Rattle.text_cursor.specs.Reads.{rest, Left}
+use Rattle.text_cursor.specs.Reads.{rest, Left, Refuses}
 use Rattle.text_identifiers.specs.declared.Extent.{Extent}
 use Rattle.text_identifiers.specs.Identifiers.{NoZero, Lies, Taken, Found, Missed}
 use Rattle.text_identifiers.proofs.Steps.{closing_takes}
@@ -55,8 +55,8 @@ module _ {S : Type 0} (stands : S → List Name → Type 0) (old new : Reader) (
         (plain_read length W.note_words old.text.now words old.at z f h t.lies refl));
   }
 
-  pub plain_missed : {x : Refusal} → literal false (rest old) ≡ refused (number x) → Missed (stands known) (named length W.note_words f false false words true (rest old)) x
-  plain_missed e = record { words = words; met = met; is = plain_refused length W.note_words old.text.now words old.at z f h e }
+  pub plain_missed : {x : Refusal} → Refuses (literal false (rest old)) x old new → Missed (stands known) words (named length W.note_words f false false words true (rest old)) old new x
+  plain_missed e = record { words = words; met = met; begins = begins_refl words; is = record { is = plain_refused length W.note_words old.text.now words old.at z f h e.is; text = e.text } }
 
 -- THE NAME
 some_name : (name : Name) → 0 < length name → is_empty name ≡ false

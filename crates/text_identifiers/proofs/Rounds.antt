@@ -9,10 +9,11 @@ use Rattle.definition.specs.Base.{Name, Out, ok, refused, and_then}
 use Rattle.definition.specs.Text.{Text, Lex}
 use Rattle.definition.specs.Words.{note_words, is_empty}
 use Rattle.definition.specs.Enums.{number}
+use Rattle.definition.proofs.WordsAdded.{Begins, begins_refl, begins_trans, note_words_begins}
 use Rattle.definition.specs.declared.Refusal.{Refusal}
 use denote.Ref.{Bor}
 use Rattle.text_cursor.specs.declared.Reader.{Reader}
-use Rattle.text_cursor.specs.Reads.{rest, Stands}
+use Rattle.text_cursor.specs.Reads.{rest, Stands, Refuses}
 use Rattle.text_words.specs.Table.{part}
 use Rattle.text_identifiers.specs.declared.Extent.{Extent}
 use Rattle.text_identifiers.specs.Identifiers.{Lies, Taken, Found, Missed}
@@ -158,15 +159,20 @@ module _ {S : Type 0} (stands : S → List Name → Type 0) {punycoded : Bool} {
   pub after_kept : punycoded ≡ true → known' ≡ known → (ws : List Name) → stands known ws → stands known' (known_after note_words punycoded slice ws)
   after_kept p e ws k = subst (λ (b : Bool). stands known' (known_after note_words b slice ws)) (sym p) (subst (λ (s : S). stands s ws) (sym e) k)
 
+known_begins : (punycoded : Bool) (slice : Name) (ws : List Name) → Begins ws (known_after note_words punycoded slice ws)
+known_begins true slice ws = begins_refl ws
+known_begins false slice ws = note_words_begins slice ws
+
 module _ {S : Type 0} (stands : S → List Name → Type 0) (punycoded subs : Bool) (old : Reader) (first : List Name) where
   -- the rounds before `at` have been made, and what is known stands for the words
   pub record Tracked (known : S) (at : ℕ) (more empty : Bool) : Type 0 where
     pub words : List Name
     pub met : stands known words
+    pub begins : Begins first words
     pub run : Running length note_words punycoded old.text.now first subs old.at at words more empty
 
   pub tracked_first : (known : S) → stands known first → Tracked known old.at subs true
-  tracked_first known h = record { words = first; met = h; run = running_first length note_words punycoded old.text.now first subs old.at }
+  tracked_first known h = record { words = first; met = h; begins = begins_refl first; run = running_first length note_words punycoded old.text.now first subs old.at }
 
   abbrev Outcome : ℕ → Out Text (Got (List Name))
   Outcome f = named length note_words f subs punycoded first true (rest old)
@@ -183,21 +189,21 @@ module _ {S : Type 0} (stands : S → List Name → Type 0) (punycoded subs : Bo
     tracked_next {known'} {e = e} z h a = record {
       words = known_after note_words punycoded (part old.text.now e.from e.to) g.words;
       met = a g.words g.met;
+      begins = begins_trans g.begins (known_begins punycoded (part old.text.now e.from e.to) g.words);
       run = subst (λ (i : ℕ). Running length note_words punycoded old.text.now first subs old.at i (known_after note_words punycoded (part old.text.now e.from e.to) g.words) true false) (sym h.here)
           (running_next length note_words punycoded old.text.now g.run k z (lain Step old mid new t h) refl);
     }
 
     module _ (f : ℕ) (fuel : length old.text.now - old.at < f) where
-      pub tracked_refused : {x : Refusal} → Step (rest mid) ≡ refused (number x) → Missed (stands known) (Outcome f) x
-      tracked_refused e = record {
-        words = g.words;
-        met = g.met;
-        is = running_refused length note_words punycoded old.text.now g.run k f fuel (ap (λ (s : Bor (List ℕ)). Step (drop mid.at s.now)) (sym t) ∙ e);
-      }
+      missed : {x : Refusal} → Outcome f ≡ refused (number x) → new.text ≡ mid.text → Missed (stands known) first (Outcome f) old new x
+      missed e s = record { words = g.words; met = g.met; begins = g.begins; is = record { is = e; text = s ∙ t } }
 
-      pub tracked_empty : {b : Bool} → b ≡ true → Stands (Step (rest mid)) (closes b) 1 mid new → Missed (stands known) (Outcome f) Refusal.Spelling
+      pub tracked_refused : {x : Refusal} → Refuses (Step (rest mid)) x mid new → Missed (stands known) first (Outcome f) old new x
+      tracked_refused e = missed (running_refused length note_words punycoded old.text.now g.run k f fuel (ap (λ (s : Bor (List ℕ)). Step (drop mid.at s.now)) (sym t) ∙ e.is)) e.text
+
+      pub tracked_empty : {b : Bool} → b ≡ true → Stands (Step (rest mid)) (closes b) 1 mid new → Missed (stands known) first (Outcome f) old new Refusal.Spelling
       unfolding number
-      tracked_empty z h = record { words = g.words; met = g.met; is = running_empty length note_words punycoded old.text.now g.run k f fuel z (reached Step old mid new t h) }
+      tracked_empty z h = missed (running_empty length note_words punycoded old.text.now g.run k f fuel z (reached Step old mid new t h)) h.text
 
       pub tracked_closed : {b : Bool} → b ≡ false → Stands (Step (rest mid)) (closes b) 1 mid new → Found (stands known) (Outcome f) old new
       tracked_closed z h = record { words = g.words; met = g.met; is = standing (h.text ∙ t) (running_closed length note_words punycoded old.text.now g.run k f fuel z (reached Step old mid new t h)) }

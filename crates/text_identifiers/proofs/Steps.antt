@@ -181,12 +181,12 @@ module _ {A : Type 0} {f : Name → A} {o o' : Out Text A} {old mid new : Reader
 
 pub extends_on : (m m' : Lex Name) (old mid new : Reader) (r : Result Extent Refusal) → m (rest old) ≡ m' (rest mid) → mid.text ≡ old.text → old.at ≤ mid.at → Extends m' mid new r → Extends m old new r
 extends_on m m' old mid new (Ok e) q t l h = taken_on q t l h
-extends_on m m' old mid new (Err f) q t l h = q ∙ h
+extends_on m m' old mid new (Err f) q t l h = record { is = q ∙ h.is; text = h.text ∙ t }
 
 pub pieced_on : (m m' : Lex Round) (old mid new : Reader) (r : Result Piece Refusal) → m (rest old) ≡ m' (rest mid) → mid.text ≡ old.text → old.at ≤ mid.at → Pieced m' mid new r → Pieced m old new r
 pieced_on m m' old mid new (Ok (Piece.Closed e)) q t l h = record { is = q ∙ h.is; text = h.text ∙ t; inside = h.inside; onward = omega (arith, h.onward) }
 pieced_on m m' old mid new (Ok (Piece.Literal s e)) q t l h = taken_on q t l h
-pieced_on m m' old mid new (Err f) q t l h = q ∙ h
+pieced_on m m' old mid new (Err f) q t l h = record { is = q ∙ h.is; text = h.text ∙ t }
 
 -- a literal after a round's letters
 pub taken_as : {A B : Type 0} {f : Name → A} (g : A → B) {o : Out Text A} {o' : Out Text B} {old new : Reader} {e : Extent} → o' ≡ and_then o (λ a u. ok (g a) u) → Taken o f old new e → Taken o' (λ s. g (f s)) old new e

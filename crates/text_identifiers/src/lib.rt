@@ -141,7 +141,7 @@ fn rounds_of<K: Known>(
     punycoded: bool,
 ) -> Result<(), Refusal>
     requires { (length text.old.text.now ≤ 65535) × (Text.well_formed text.old.text.now ≡ true) }
-    ensures { (words : List Name) → K.stands text.old.text.now known.old words → (fuel : ℕ) → length text.old.text.now - text.old.at < fuel → Finds (K.stands text.old.text.now known.new) (named length W.note_words fuel subs punycoded words true (rest text.old)) text.old text.new result }
+    ensures { (words : List Name) → K.stands text.old.text.now known.old words → (fuel : ℕ) → length text.old.text.now - text.old.at < fuel → Finds (K.stands text.old.text.now known.new) words (named length W.note_words fuel subs punycoded words true (rest text.old)) text.old text.new result }
 {
     let mut more = subs;
     let mut empty = true;
@@ -171,7 +171,7 @@ fn rounds_of<K: Known>(
 // Reads an identifier that does not begin with `0`: one literal.
 fn plain<K: Known>(text: &mut Reader, known: &mut K) -> Result<(), Refusal>
     requires { (length text.old.text.now ≤ 65535) × NoZero text.old.text.now text.old.at × (Text.well_formed text.old.text.now ≡ true) }
-    ensures { (words : List Name) → K.stands text.old.text.now known.old words → (fuel : ℕ) → length text.old.text.now - text.old.at < fuel → Finds (K.stands text.old.text.now known.new) (named length W.note_words fuel false false words true (rest text.old)) text.old text.new result }
+    ensures { (words : List Name) → K.stands text.old.text.now known.old words → (fuel : ℕ) → length text.old.text.now - text.old.at < fuel → Finds (K.stands text.old.text.now known.new) words (named length W.note_words fuel false false words true (rest text.old)) text.old text.new result }
 {
     let bytes = literal(text, false)?;
     note(text.text, bytes.from, bytes.to, known);
@@ -181,7 +181,7 @@ fn plain<K: Known>(text: &mut Reader, known: &mut K) -> Result<(), Refusal>
 // Reads an identifier. `00` before it marks punycode, `0` alone allows word letters.
 fn read<K: Known>(text: &mut Reader, known: &mut K) -> Result<(), Refusal>
     requires { (length text.old.text.now ≤ 65535) × (Text.well_formed text.old.text.now ≡ true) }
-    ensures { (words : List Name) → K.stands text.old.text.now known.old words → Finds (K.stands text.old.text.now known.new) (identifier_of length W.note_words words (rest text.old)) text.old text.new result }
+    ensures { (words : List Name) → K.stands text.old.text.now known.old words → Finds (K.stands text.old.text.now known.new) words (identifier_of length W.note_words words (rest text.old)) text.old text.new result }
 {
     if !text.next_if(b'0') {
         return plain(text, known);
@@ -193,7 +193,7 @@ fn read<K: Known>(text: &mut Reader, known: &mut K) -> Result<(), Refusal>
 // Reads an identifier, and notes its words.
 pub fn identifier(text: &mut Reader, words: &mut Words) -> Result<(), Refusal>
     requires { (length text.old.text.now ≤ 65535) × Fitting text.old.text.now words.old × (Text.well_formed text.old.text.now ≡ true) }
-    ensures { Identifies (W.identifier (table text.old.text.now words.old) (rest text.old)) text.old text.new words.new result }
+    ensures { Identifies (W.identifier (table text.old.text.now words.old) (rest text.old)) text.old text.new words.old words.new result }
 {
     read(text, words)
 }
@@ -201,7 +201,7 @@ pub fn identifier(text: &mut Reader, words: &mut Words) -> Result<(), Refusal>
 // Reads an identifier, and counts its words.
 pub fn identifier_count(text: &mut Reader, count: &mut usize) -> Result<(), Refusal>
     requires { (length text.old.text.now ≤ 65535) × (Text.well_formed text.old.text.now ≡ true) }
-    ensures { Counted (C.identifier count.old (rest text.old)) text.old text.new count.new result }
+    ensures { Counted (C.identifier count.old (rest text.old)) text.old text.new count.old count.new result }
 {
     read(text, count)
 }

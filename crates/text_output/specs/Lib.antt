@@ -1,2 +1,4 @@
 pub mod Sink
 pub mod Appends
+pub mod Copied
+pub mod LowBytes

@@ -2,8 +2,13 @@
 // measures.
 #![tactic(auto)]
 
+// Copies of bytes.
+pub mod copies;
+
 ghost use Rattle.std.specs.Prelude.{◌≡◌, ◌+◌, ◌≤◌, ◌∷◌, [], length, ltb};
 ghost use Rattle.text_output.specs.Sink.{Room};
+
+use crate::copies::{WORD, copy, copy_words};
 
 // A lent slice, the place of the next byte, and the room: how many bytes may be appended in all.
 // Once something did not fit, the place is past the room, and nothing is appended any more.
@@ -38,7 +43,11 @@ impl<'a> Sink<'a> {
         }
         let end = self.at + bytes.len();
         if end <= self.out.len() {
-            self.out[self.at..end].copy_from_slice(bytes);
+            if bytes.len() < WORD {
+                copy(self.out, self.at, bytes);
+            } else {
+                copy_words(self.out, self.at, bytes, 0, bytes.len());
+            }
         }
         self.at = end;
     }

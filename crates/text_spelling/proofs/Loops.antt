@@ -216,5 +216,5 @@ module _ (first : Reader) (words : Bor Words) (g : Fitting first.text.now words.
       writing_end first.text.now words.now first.at (writing_next first.text.now words.now first.at (writing_first first.text.now words.now first.at o begun) k v)
       (ap (λ (u : Text). segment_of (table new.text.now words.now) false false u) (drop-length new.text.now) ∙ no_text (table new.text.now words.now) false)
 
-  pub plain_none : Unmeasured false r → (o : Sink) → Spelled first.text.now words.now first.at o o
+  pub plain_none : {new : Reader} → Unmeasured false r new → (o : Sink) → Spelled first.text.now words.now first.at o o
   plain_none u o = writing_end first.text.now words.now first.at (writing_first first.text.now words.now first.at o begun) (there ∙ u.is false)

@@ -15,10 +15,11 @@ pub record Measured (bytes : Name) (punycoded : Bool) (old new : Reader) : Type 
   pub onward : old.at + 1 ≤ new.at
   pub inside : new.at ≤ length new.text.now
 
--- there is no length, or fewer bytes than it says
-pub record Unmeasured (punycoded : Bool) (old : Reader) : Type 0 where
+-- there is no length, or fewer bytes than it says; the reader keeps its text
+pub record Unmeasured (punycoded : Bool) (old new : Reader) : Type 0 where
   pub is : (more : Bool) → P.of_length more punycoded (natural (rest old)) ≡ P.end
+  pub text : new.text ≡ old.text
 
 abbrev pub MeasuredIs : Bool → Reader → Reader → Option (Bor (List ℕ)) → Type 0
 MeasuredIs punycoded old new (Some b) = Measured b.now punycoded old new
-MeasuredIs punycoded old new None = Unmeasured punycoded old
+MeasuredIs punycoded old new None = Unmeasured punycoded old new

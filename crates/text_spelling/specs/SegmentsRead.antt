@@ -31,9 +31,15 @@ pub record Taken (out : P.Segment) (bytes : Name) (old new : Segments) : Type 0 
   pub onward : old.text.at + 1 ≤ new.text.at
   pub within : new.text.at ≤ length old.text.text.now
 
+-- the name ends here; the text and the words stay
+pub record NoSegment (out : P.Segment) (old new : Segments) : Type 0 where
+  pub is : out ≡ P.end
+  pub text : new.text.text ≡ old.text.text
+  pub words : new.words ≡ old.words
+
 abbrev pub SegmentIs : P.Segment → Segments → Segments → Option (Bor (List ℕ)) → Type 0
 SegmentIs out old new (Some b) = Taken out b.now old new
-SegmentIs out old new None = out ≡ P.end
+SegmentIs out old new None = NoSegment out old new
 
 -- the word is these bytes, which are no more than the text has
 pub record Word (out : M.Option Name) (text : Text) (bytes : Name) : Type 0 where

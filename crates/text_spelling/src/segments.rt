@@ -24,7 +24,7 @@ pub fn measured<'a>(text: &mut Reader<'a>, punycoded: bool) -> Option<&'a [u8]>
 // What is left of a name: the text from the next segment on, whether word letters may follow, and
 // whether the name is punycode.
 // Kept: this is an iterator's state; both flags say what may follow, beside no value of their own.
-#[derive(Drop)]
+#[derive(Clone, Copy)]
 pub struct Segments<'a> {
     text: Reader<'a>,
     words: &'a Words,

@@ -23,9 +23,14 @@ pub record Skipped (out : Option Text) (old new : Reader) : Type 0 where
   pub onward : old.at ≤ new.at
   pub inside : old.at ≤ length old.text.now → new.at ≤ length old.text.now
 
+-- there is none; the reader keeps its text
+pub record NotSkipped (out : Option Text) (old new : Reader) : Type 0 where
+  pub is : out ≡ none
+  pub text : new.text ≡ old.text
+
 abbrev pub Skips : Option Text → Reader → Reader → Std.Option Unit → Type 0
 Skips out old new (Some u) = Skipped out old new
-Skips out old new None = out ≡ none
+Skips out old new None = NotSkipped out old new
 
 abbrev pub Placed : Option ℕ → Std.Option ℕ → Type 0
 Placed out (Some i) = out ≡ some i

@@ -99,3 +99,11 @@ module _ (text : Text) (q : Waiting) (i : ℕ) {xs : List Span} (all : xs ≡ ta
       let e : to - from ≡ (span_at q.spans i).length = omega (arith, ap (λ (a : Span). a.length) found) in
       let b : from ≡ (span_at q.spans i).start = begins ∙ ap (λ (a : Span). a.start) found in
       rw (add-one, e, b)
+
+-- THE TEST OF THE RUNS: the byte there is not `0`, and fewer than 16 literals wait
+module _ (b held : ℕ) (e : (eqb b 48 || eqb held 16) ≡ false) where
+  pub no_zero : is "0" b ≡ false
+  no_zero = (neither (eqb b 48) (eqb held 16) e).0
+
+  pub room_left : held ≤ 16 → held < 16
+  room_left l = omega (arith, l, eqb-false held 16 (neither (eqb b 48) (eqb held 16) e).1)

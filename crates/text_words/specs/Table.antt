@@ -5,10 +5,20 @@ use Rattle.definition.specs.Text.{Text}
 use Rattle.definition.specs.Words as W
 pub use Rattle.text_cursor.specs.Part.{part}
 use Rattle.text_words.specs.declared.spans.Span.{Span}
-use Rattle.text_words.specs.declared.spans.Spans.{Spans}
+use Rattle.text_words.specs.declared.Words as D
 
 abbrev pub Words : Type 0
-Words = Spans W.most_words
+Words = D.Words
+
+-- parts, from where each starts and how long it is
+unfoldable pub paired : (starts lengths : List ℕ) → List Span
+paired [] lengths = []
+paired (s ∷ starts) [] = []
+paired (s ∷ starts) (l ∷ lengths) = record { start = s; length = l } ∷ paired starts lengths
+
+-- the parts of a table
+abbrev pub spans_of : Words → List Span
+spans_of w = paired w.starts w.lengths
 
 -- the i-th of these parts; past the last, a part of no bytes
 abbrev pub span_at : List Span → ℕ → Span
@@ -28,13 +38,13 @@ words_of text spans zero = []
 words_of text spans (suc n) = words_of text spans n ++ (word_of text spans n ∷ [])
 
 abbrev pub table : Text → Words → List Name
-table text w = words_of text w.spans w.count
+table text w = words_of text (spans_of w) w.count
 
 -- at most 26 words, each of 2 bytes or more and inside the text
 pub record Fitting (text : Text) (w : Words) : Type 0 where
   pub few : w.count ≤ W.most_words
-  pub inside : (i : ℕ) → i < w.count → (span_at w.spans i).start + (span_at w.spans i).length ≤ length text
-  pub long : (i : ℕ) → i < w.count → 2 ≤ (span_at w.spans i).length
+  pub inside : (i : ℕ) → i < w.count → (span_at (spans_of w) i).start + (span_at (spans_of w) i).length ≤ length text
+  pub long : (i : ℕ) → i < w.count → 2 ≤ (span_at (spans_of w) i).length
 
 -- the table w holds these words
 pub record Lists (text : Text) (w : Words) (words : List Name) : Type 0 where

@@ -6,17 +6,69 @@ pub mod spans;
 // Literals whose words are not noted yet.
 pub mod waiting;
 
-ghost use Rattle.std.specs.Prelude.{◌≡◌, ◌&&◌, leb, ltb, ◌+◌, ◌≤◌, ◌<◌, List, length};
+ghost use Rattle.std.specs.Prelude.{◌≡◌, ◌&&◌, leb, ltb, ◌+◌, ◌≤◌, ◌<◌, List, length, slice_set, MatchOption};
 ghost use Rattle.definition.specs.Base.{Name};
 ghost use Rattle.definition.specs.Text.{Text};
 ghost use Rattle.definition.specs.Words as W;
-ghost use Rattle.text_words.specs.Table.{part, spanned, Lists, Turns};
+ghost use Rattle.text_words.specs.Table.{part, span_at, spanned, spans_of, Lists, Turns};
 
-use crate::spans::{Span, Spans};
+use crate::spans::Span;
 use text_cursor::{is_digit, is_upper};
 
-// The words, of which at most 26 are kept.
-pub type Words = Spans<26>;
+const MOST_WORDS: usize = 26;
+
+const SHORTEST_WORD: u16 = 2;
+
+// The words, of which at most 26 are kept: where each starts in the text, and how long it is.
+// Kept: there is no heap, so they are in arrays of fixed size.
+#[derive(Clone, Copy)]
+pub struct Words {
+    starts: [u16; MOST_WORDS],
+    lengths: [u16; MOST_WORDS],
+    count: usize,
+}
+
+impl Words {
+    pub fn new() -> Words
+        ensures { result.count ≡ 0 }
+    {
+        Words {
+            starts: [0; MOST_WORDS],
+            lengths: [0; MOST_WORDS],
+            count: 0,
+        }
+    }
+
+    pub fn len(&self) -> usize
+        ensures { result ≡ self.now.count }
+    {
+        self.count
+    }
+
+    // Appends a word.
+    pub fn push(&mut self, word: Span)
+        requires { self.old.count < W.most_words }
+        ensures { (self.new.count ≡ self.old.count + 1) × (spans_of self.new ≡ slice_set (spans_of self.old) self.old.count word) }
+    {
+        self.starts[self.count] = word.start;
+        self.lengths[self.count] = word.length;
+        self.count += 1;
+    }
+
+    // Returns the word with number i.
+    pub fn get(&self, i: usize) -> Option<Span>
+        requires { self.now.count ≤ W.most_words }
+        ensures { MatchOption result (self.now.count ≤ i) (λ s. (i < self.now.count) × (s ≡ span_at (spans_of self.now) i)) }
+    {
+        if self.count <= i {
+            return None;
+        }
+        Some(Span {
+            start: self.starts[i],
+            length: self.lengths[i],
+        })
+    }
+}
 
 // What is known of the words of a text: the words, or their number.
 pub trait Known {
@@ -31,10 +83,6 @@ pub trait Known {
     fn keep(&mut self, word: Span)
         ensures { (text : Text) (words : List Name) → word.start + word.length ≤ length text → stands text self.old words → stands text self.new (W.keep (spanned text word) words) };
 }
-
-const MOST_WORDS: usize = 26;
-
-const SHORTEST_WORD: u16 = 2;
 
 // Whether one more word is kept.
 fn is_kept(count: usize, word: Span) -> bool

@@ -1,6 +1,5 @@
 // Parts of a text of at most 65,535 bytes, kept in a row.
-ghost use Rattle.std.specs.Prelude.{◌≡◌, ◌+◌, ◌-◌, ◌≤◌, ◌<◌, slice_set, MatchOption, take};
-ghost use Rattle.text_words.specs.Table.{span_at};
+ghost use Rattle.std.specs.Prelude.{◌≡◌, ◌+◌, ◌-◌, ◌≤◌, ◌<◌, slice_set, take};
 
 // Where a part starts, and how long it is.
 #[derive(Clone, Copy)]
@@ -37,7 +36,8 @@ impl Span {
 }
 
 // At most N parts, in order.
-// Kept: there is no heap, so the parts are in an array of fixed size.
+// Kept: there is no heap, so the parts are in an array of fixed size. The one N of this port is 16
+// (`Waiting`).
 #[derive(Clone, Copy)]
 pub struct Spans<const N: usize> {
     spans: [Span; N],
@@ -78,13 +78,5 @@ impl<const N: usize> Spans<N> {
         ensures { result.now ≡ take self.now.count self.now.spans }
     {
         &self.spans[..self.count]
-    }
-
-    // Returns the part with number i.
-    pub fn get(&self, i: usize) -> Option<Span>
-        requires { self.now.count ≤ N }
-        ensures { MatchOption result (self.now.count ≤ i) (λ s. (i < self.now.count) × (s ≡ span_at self.now.spans i)) }
-    {
-        self.as_slice().get(i).copied()
     }
 }

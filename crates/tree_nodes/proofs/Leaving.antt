@@ -12,16 +12,18 @@ use Rattle.definition.specs.Node.{size}
 use Rattle.definition.specs.Budget as B
 use Rattle.definition.specs.Machine as M
 use Rattle.definition.specs.Machine.{machine}
+use Rattle.definition.specs.Perform.{Demangler}
 use Rattle.machine.specs.Spent.{budget_of, Spending}
 use Rattle.machine.specs.declared.budget.Budget.{Budget}
 use Rattle.std.specs.Prelude.{Result, Ok, Err}
 use Rattle.machine.specs.declared.budget.Budget.{Budget}
 use Rattle.definition.specs.declared.Refusal.{Refusal}
 use Rattle.tree_records.specs.Lies.{Lies}
-use Rattle.tree_records.specs.Holds.{Named, Inside, Grew, Pushed, Remembered, Keeps, for_push, for_keeping}
+use Rattle.tree_records.specs.Holds.{Names, Named, Spare, Inside, Holds, Grew, Pushed, Remembered, Keeps, for_push, for_keeping}
 use Rattle.tree_records.specs.declared.State.{State}
 use Rattle.machine.specs.Beyond.{Beyond}
 use Rattle.tree_nodes.specs.Gives.{Left, Kept, WrapsTo}
+use Rattle.tree_nodes.specs.Trees.{Wrapped, NotWrapped}
 
 pub keeps_then : {w w₁ w₂ : List ℕ} {N : ℕ} (top top₁ : ℕ) → top ≤ top₁ → Keeps w w₁ N top → Keeps w₁ w₂ N top₁ → Keeps w w₂ N top
 keeps_then top top₁ l a b = record {
@@ -110,6 +112,46 @@ wraps_to st b e w N =
         },
       );
     }
+
+pub wrap_refusal : (b : B.Budget) (n : ℕ) → B.wrap b ≡ refused n → B.wrap b ≡ refused 8
+unfolding B.wrap
+wrap_refusal b n = go (ltb b.wraps 256)
+  where
+    go : (t : Bool) → ◌≡◌ {A = Out B.Budget Done} (if t then ok tt (B.budget b.steps b.total (suc b.wraps)) else refused 8) (refused n) → ◌≡◌ {A = Out B.Budget Done} (if t then ok tt (B.budget b.steps b.total (suc b.wraps)) else refused 8) (refused 8)
+    go true e = let z : ◌≡◌ {A = ℕ} 0 1 = cc in absurd (omega arith)
+    go false e = refl
+
+pub wraps_refused : (st : State) (n : ℕ) → B.wrap (budget_of st.budget) ≡ refused n → (nm : Names) (w : List ℕ) (N : ℕ) (sp : Spare) (m : Demangler) → Holds nm w N st sp m → M.wrap m ≡ refused 8
+unfolding M.wrap M.spend
+wraps_refused st n e nm w N sp m h = let r : B.wrap (budget_of st.budget) ≡ refused 8 = wrap_refusal (budget_of st.budget) n e in rw (← h.budget, r) refl
+
+-- the only refusal with that number
+nesting : (r : Refusal) → number r ≡ 8 → r ≡ Refusal.Nesting
+unfolding number
+nesting Refusal.Ceiling e = absurd (omega arith)
+nesting Refusal.Workspace e = absurd (omega arith)
+nesting Refusal.Length e = absurd (omega arith)
+nesting Refusal.Encoding e = absurd (omega arith)
+nesting Refusal.Prefix e = absurd (omega arith)
+nesting Refusal.Steps e = absurd (omega arith)
+nesting Refusal.Charge e = absurd (omega arith)
+nesting Refusal.Nesting e = refl
+nesting Refusal.Spelling e = absurd (omega arith)
+nesting Refusal.Stack e = absurd (omega arith)
+nesting Refusal.Leftover e = absurd (omega arith)
+nesting Refusal.Output e = absurd (omega arith)
+
+pub counts_not : (st : State) (r : Refusal) → B.wrap (budget_of st.budget) ≡ refused (number r) → NotWrapped st st r
+counts_not st r e =
+    let both : ◌≡◌ {A = Out B.Budget Done} (refused (number r)) (refused 8) = sym e ∙ wrap_refusal (budget_of st.budget) (number r) e in
+    record { is = e; nesting = nesting r (let q : number r ≡ 8 = cc in q); same = refl }
+
+-- what is counted, for the machine of any workspace
+pub wraps_all : {s u : State} → Wrapped s u → (w : List ℕ) (N : ℕ) → WrapsTo w N s u
+wraps_all {s} {u} h w N = subst (λ (x : State). WrapsTo w N s x) (sym h.rest) (wraps_to s u.budget h.is w N)
+
+pub wraps_not : {s u : State} {r : Refusal} → NotWrapped s u r → (w : List ℕ) (N : ℕ) (nm : Names) (sp : Spare) (m : Demangler) → Holds nm w N s sp m → M.wrap m ≡ refused 8
+wraps_not {s} {u} {r} h w N nm sp m k = wraps_refused s (number r) h.is nm w N sp m k
 
 -- the result of an arm about a budget
 pub spent_left : {out : Out B.Budget Done} {r : Result Budget Refusal} (b : Budget) → r ≡ Ok b → Spending out r → out ≡ ok tt (budget_of b)

@@ -1,5 +1,5 @@
 -- Taking a tree of a kind from the stack.
-use Rattle.std.specs.Prelude.{if◌then◌else◌}
+use Rattle.std.specs.Prelude.{if◌then◌else◌, Result, Ok, Err}
 use mathlib.Core.Path.{◌≡◌, refl, sym, ap, ◌∙◌, subst}
 use mathlib.Core.Bool.{Bool, true, false}
 use mathlib.Core.List.{List, [], ◌∷◌}
@@ -16,9 +16,12 @@ use Rattle.definition.specs.Machine as M
 use Rattle.definition.specs.Machine.{restack}
 use Rattle.definition.specs.Perform as R
 use Rattle.definition.specs.Perform.{Demangler, Run}
+use Rattle.definition.specs.declared.Refusal.{Refusal}
 use Rattle.tree_records.specs.Lies.{at, Lies}
 use Rattle.tree_records.specs.Holds.{Names, Named, Spare, Holds, Ready, TopIs, Took, Keeps}
+use Rattle.tree_records.specs.Trees.{Pops}
 use Rattle.tree_records.specs.declared.State.{State}
+use Rattle.tree_records.specs.declared.Trees.{Trees}
 use Rattle.tree_nodes.specs.Gives.{nothing_spare, taken, Gives, GivesIf, Marks, GivesName}
 use Rattle.tree_nodes.proofs.ByKind.{identifier_of}
 
@@ -84,6 +87,13 @@ module _ {w : List ℕ} {N : ℕ} {st u : State} {p : ℕ} (want : ℕ → Bool)
 pub pop_if_empty : (want : ℕ → Bool) (m : Demangler) → m.stack ≡ [] → R.pop_if want m ≡ refused 10
 unfolding M.pop_if M.pop_from
 pop_if_empty want m e = rw e refl
+
+-- the result of an arm of `pop`
+pub popped : (t t' : Trees) {r : Result ℕ Refusal} (p : ℕ) → r ≡ Ok p → Pops t t' r → Took t.ws.now t.n t.state p t'.state
+popped t t' p e h = subst (λ (x : Result ℕ Refusal). Pops t t' x) e h
+
+pub popped_nothing : (t t' : Trees) {r : Result ℕ Refusal} (x : Refusal) → r ≡ Err x → Pops t t' r → (nm : Names) (sp : Spare) (m : Demangler) → Holds nm t.ws.now t.n t.state sp m → m.stack ≡ []
+popped_nothing t t' x e h = (subst (λ (y : Result ℕ Refusal). Pops t t' y) e h).0
 
 -- with no refusal
 module _ {w : List ℕ} {N : ℕ} {st u : State} {p : ℕ} (want : ℕ → Bool) (t : Took w N st p u) where

@@ -5,10 +5,13 @@ use Rattle.definition.specs.Base.{Name, ok, refused, Done}
 use Rattle.definition.specs.Enums.{number}
 use Rattle.definition.specs.Node.{Node}
 use Prim.Native.String.{String}
+use Rattle.definition.specs.Budget as B
 use Rattle.definition.specs.Machine.{wrap}
 use Rattle.definition.specs.Perform.{Demangler, Run}
 use Rattle.definition.specs.declared.Refusal.{Refusal}
+use Rattle.definition.specs.declared.Refusal.TheVariants.{Nesting}
 use Rattle.machine.specs.Beyond.{Beyond}
+use Rattle.machine.specs.Spent.{budget_of}
 use Rattle.tree_records.specs.Holds.{Names, Spare, Holds}
 use Rattle.tree_records.specs.declared.Trees.{Trees}
 use Rattle.tree_nodes.specs.Gives.{Gives, Building, GivesIf, GivesName, Performed, WrapsTo}
@@ -60,6 +63,22 @@ Makes x cost t t' p = G.Makes x cost t.ws.now t'.ws.now t.n t.state (record { pl
 abbrev pub Wraps : (t t' : Trees) → Result Done Refusal → Type 0
 Wraps t t' (Ok d) = WrapsTo t.ws.now t.n t.state t'.state
 Wraps t t' (Err r) = Refuses wrap t t' r
+
+-- whatever the trees hold: the definition's wrap of the budget of s gives that of u, and nothing
+-- else of the state changes
+pub record Wrapped (s u : State) : Type 0 where
+  pub is : B.wrap (budget_of s.budget) ≡ ok tt (budget_of u.budget)
+  pub rest : u ≡ record s { budget = u.budget }
+
+-- or it is refused, with refusal 8, and the state is unchanged
+pub record NotWrapped (s u : State) (r : Refusal) : Type 0 where
+  pub is : B.wrap (budget_of s.budget) ≡ refused (number r)
+  pub nesting : r ≡ Nesting
+  pub same : u ≡ s
+
+abbrev pub Counts : (s u : State) → Result Done Refusal → Type 0
+Counts s u (Ok d) = Wrapped s u
+Counts s u (Err r) = NotWrapped s u r
 
 -- the result of an operator, and the state after it
 abbrev pub step_of : Result Done Refusal → State → Step

@@ -9,7 +9,7 @@ ghost use Rattle.machine.specs.Kinds.{kind_of};
 ghost use Rattle.tree_records.specs.Holds.{Inside};
 ghost use Rattle.tree_records.specs.Trees.{Stays, Reads, numbers};
 ghost use Rattle.tree_nodes.specs.Gives.{Left, Kept};
-ghost use Rattle.tree_nodes.specs.Trees.{Makes, Wraps};
+ghost use Rattle.tree_nodes.specs.Trees.{Makes, Wraps, Counts};
 
 use crate::{FIXED, fixed_number, high, low};
 use definition::{NominalKind, Param, Refusal};
@@ -17,10 +17,11 @@ use machine::kinds::Kind;
 use operator_names::Name;
 use tree_records::{Record, Trees};
 
-// Counts one wrap.
+// Counts one wrap. Refusal 8: there are too many.
 pub fn wrap(trees: &mut Trees) -> Result<(), Refusal>
     ensures reads { Reads trees.old trees.new }
     ensures wraps { Wraps trees.old trees.new result }
+    ensures counts { Counts trees.old.state trees.new.state result }
 {
     trees.state.budget = trees.state.budget.wrap()?;
     Ok(())

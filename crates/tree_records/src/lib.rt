@@ -4,6 +4,7 @@
 
 ghost use Rattle.std.specs.Prelude.{◌≡◌, List, [], ◌∷◌, ◌+◌, ◌*◌, ◌^◌, ◌≤◌, ◌<◌, length};
 ghost use Rattle.tree_records.specs.Lies.{at};
+ghost use Rattle.tree_records.specs.Made.{Wrote};
 ghost use Rattle.tree_records.specs.Holds.{Inside, Grew, Pushed, Remembered};
 ghost use Rattle.tree_records.specs.Trees.{Fresh, Begun, Stays, Reads, Peeks, Pops, numbers};
 
@@ -97,6 +98,32 @@ impl Record {
     };
 }
 
+// The last 5 numbers of a record.
+#[derive(Clone, Copy)]
+pub struct Fields {
+    pub a: u32,
+    pub b: u32,
+    pub c: u32,
+    pub d: u32,
+    pub e: u32,
+}
+
+// Writes the 8 numbers of one record at a place. Any number may be its kind.
+pub fn make(ws: &mut [u32], place: usize, kind: u32, size: u32, count: u32, rest: Fields)
+    requires { 8 * place + 8 ≤ length ws.old }
+    ensures { Wrote ws.old ws.new place (kind ∷ size ∷ count ∷ rest.a ∷ rest.b ∷ rest.c ∷ rest.d ∷ rest.e ∷ []) }
+{
+    let i = 8 * place;
+    ws[i] = kind;
+    ws[i + 1] = size;
+    ws[i + 2] = count;
+    ws[i + 3] = rest.a;
+    ws[i + 4] = rest.b;
+    ws[i + 5] = rest.c;
+    ws[i + 6] = rest.d;
+    ws[i + 7] = rest.e;
+}
+
 impl<'a> Trees<'a> {
     // Returns the trees at the beginning of a run, whatever the workspace holds.
     pub fn new(ws: &'a mut [u32], n: usize) -> Self
@@ -160,15 +187,21 @@ impl Trees<'_> {
         ensures place { result ≡ self.old.state.top }
     {
         let place = self.state.top;
-        let i = 8 * place;
-        self.ws[i] = made.kind.code();
-        self.ws[i + 1] = made.size;
-        self.ws[i + 2] = made.count;
-        self.ws[i + 3] = made.a;
-        self.ws[i + 4] = made.b;
-        self.ws[i + 5] = made.c;
-        self.ws[i + 6] = made.d;
-        self.ws[i + 7] = made.e;
+        let rest = Fields {
+            a: made.a,
+            b: made.b,
+            c: made.c,
+            d: made.d,
+            e: made.e,
+        };
+        make(
+            self.ws,
+            place,
+            made.kind.code(),
+            made.size,
+            made.count,
+            rest,
+        );
         self.state.top += 1;
         place
     }

@@ -3,7 +3,7 @@ use Rattle.std.proofs.Common.{Bor}
 use mathlib.Core.Path.{◌≡◌, refl, sym, ap, subst, ◌∙◌}
 use mathlib.Core.Bool.{true, false}
 use mathlib.Core.List.{List, [], ◌∷◌, ◌++◌}
-use Prim.Native.Nat.{ℕ, ◌+◌, ◌≤◌, ◌<◌}
+use Prim.Native.Nat.{ℕ, ◌+◌, ◌<◌}
 use native.Mathlib.Omega.{arith}
 use lib.ListN.{length, get_or, drop}
 use Rattle.definition.specs.Base.{Name, is, digit, ok, refused}
@@ -18,7 +18,7 @@ use Rattle.definition.specs.Calls.{then_run}
 use Rattle.definition.specs.Enums.{number}
 use Rattle.definition.specs.declared.Refusal.{Refusal}
 use Rattle.definition.proofs.WordsAdded.{Begins, Looked, begins_refl, identifier_begins}
-use Rattle.text_cursor.specs.Reads.{rest}
+use Rattle.text_cursor.specs.Reads.{rest, Refuses}
 use Rattle.text_cursor.specs.declared.Reader.{Reader}
 use Rattle.text_cursor.proofs.Steps.{front, differ, peek_read}
 use Rattle.text_identifiers.specs.Identifiers as I
@@ -34,7 +34,7 @@ use Rattle.tree_records.specs.Trees.{Stays}
 use Rattle.tree_records.specs.declared.State.{State}
 use Rattle.tree_records.specs.declared.Trees.{Trees}
 use Rattle.run.proofs.Readers.{moved}
-use Rattle.run.specs.Meaning.{Standing, Names, NotNamed, Plain, Fails}
+use Rattle.run.specs.Meaning.{AtName, Names, NotNamed, Plain, Fails}
 use Rattle.tree_run.specs.Meant.{Wrote, meant}
 use Rattle.tree_run.specs.Laws.{wrote_itself, lent_itself}
 use Rattle.tree_run.specs.declared.Reading.{Reading}
@@ -50,17 +50,17 @@ one_name N text at h e m =
     ∙ ap (λ (t : Text). then_run (W.identifier m.words t) (λ x. D.name N x.name x.words) m) (sym (front text at h)))
 
 -- room for the name
-pub name_room : {text : Text} {s : Reading} → Standing meant 1 text s → Inside s.trees.now.ws.now s.trees.now.n s.trees.now.state 5 1 1
-name_room p = let h = p.holds in record { small = h.small; long = h.long; charged = h.charged; room = omega (arith, h.room); deep = omega (arith, h.deep); kept = omega (arith, h.kept) }
+pub name_room : {r : Reader} {s : Reading} → AtName meant 1 r s → Inside s.trees.now.ws.now s.trees.now.n s.trees.now.state 5 1 1
+name_room p = let h = p.ready.holds in record { small = h.small; long = h.long; charged = h.charged; room = omega (arith, h.room); deep = omega (arith, h.deep); kept = omega (arith, h.kept) }
 
 -- AN IDENTIFIER that was read becomes a node: what was read, what is known then, and that the name can
 -- be spelled
 module _ (N : ℕ) (text : Text) (at : ℕ) (l : at < length text) (e : digit (get_or text at 0) ≡ true) where
-  came : {w w₁ : List ℕ} {u v : State} (to : ℕ) (m : Demangler) (ws vs : Noted) (name : Name) → length text ≤ 65535 → Holds (names_of text ws) w N u full_spare m →
+  came : {w w₁ : List ℕ} {u v : State} (to : ℕ) (m : Demangler) (ws vs : Noted) (name : Name) → at < 65536 → Holds (names_of text ws) w N u full_spare m →
       Begins ws.words vs.words → W.identifier ws.all (drop at text) ≡ ok (W.identified name vs.all) (drop to text) → Looked (drop at text) vs.all vs.words →
       Kept w w₁ N u v (0 ∷ 1 ∷ 0 ∷ at ∷ 0 ∷ 0 ∷ 0 ∷ 0 ∷ []) → (m₁ : Demangler) × (D.one N (drop at text) m ≡ ok (drop to text) m₁) × Holds (names_of text vs) w₁ N v nothing_spare m₁
   unfolding then_run D.name M.know M.remember M.push kind size count view
-  came {w} {w₁} {u} {v} to m ws vs name short h b r z k =
+  came {w} {w₁} {u} {v} to m ws vs name low h b r z k =
       let x : Node = Identifier name in
       let known : m.words ≡ ws.all = sym h.words in
       let read : W.identifier m.words (drop at text) ≡ ok (W.identified name vs.all) (drop to text) = ap (λ (xs : List Name). W.identifier xs (drop at text)) known ∙ r in
@@ -82,7 +82,7 @@ module _ (s : Reading) (r : Reader) (h : r.at < length r.text.now) (e : digit (g
   abbrev N : ℕ
   N = s.trees.now.n
 
-  module _ (short : length r.text.now ≤ 65535) (t : Trees) (y : Stays s.trees.now t) (k : Kept s.trees.now.ws.now t.ws.now N s.trees.now.state t.state (0 ∷ 1 ∷ 0 ∷ r.at ∷ 0 ∷ 0 ∷ 0 ∷ 0 ∷ [])) where
+  module _ (low : r.at < 65536) (t : Trees) (y : Stays s.trees.now t) (k : Kept s.trees.now.ws.now t.ws.now N s.trees.now.state t.state (0 ∷ 1 ∷ 0 ∷ r.at ∷ 0 ∷ 0 ∷ 0 ∷ 0 ∷ [])) where
     wrote : Wrote s.trees.now t
     wrote = record { stays = y; beyond = record { past = k.keeps.past; long = k.keeps.long } }
 
@@ -93,7 +93,7 @@ module _ (s : Reading) (r : Reader) (h : r.at < length r.text.now) (e : digit (g
           let w = place a.is in
           let begins : Begins (table r.text.now s.words) known = identifier_begins (table r.text.now s.words) (rest r) (drop r₁.at r.text.now) (W.identified a.name known) w.is in
           let read : W.identifier words (rest r) ≡ ok (W.identified a.name known) (drop r₁.at r.text.now) = ap (λ (ws : List Name). W.identifier ws (rest r)) (sym q.is) ∙ w.is in
-          let o = came N r.text.now r.at h e r₁.at m (noted (table r.text.now s.words) words) (noted known known) a.name short p begins read (λ _. begins_refl known) k in
+          let o = came N r.text.now r.at h e r₁.at m (noted (table r.text.now s.words) words) (noted known known) a.name low p begins read (λ _. begins_refl known) k in
           record {
             words = known;
             knows = record { is = refl; fitting = f };
@@ -111,7 +111,7 @@ module _ (s : Reading) (r : Reader) (h : r.at < length r.text.now) (e : digit (g
         plain = λ all m p.
             let slice : Name = part r.text.now from to in
             let words : List Name = table r.text.now s.words in
-            let o = came N r.text.now r.at h e to m (noted words all) (noted words (W.note_words slice all)) slice short p (begins_refl words) (one_literal r.text.now r.at h z all a) (λ q. absurd (differ (sym q ∙ (peek_read r.text.now r.at (is "0") h ∙ z)))) k in
+            let o = came N r.text.now r.at h e to m (noted words all) (noted words (W.note_words slice all)) slice low p (begins_refl words) (one_literal r.text.now r.at h z all a) (λ q. absurd (differ (sym q ∙ (peek_read r.text.now r.at (is "0") h ∙ z)))) k in
             record { machine = o.0; is = o.1; holds = rw y.ceiling o.2 };
         knows = λ words q. q;
         some = a.some;
@@ -125,16 +125,20 @@ module _ (s : Reading) (r : Reader) (h : r.at < length r.text.now) (e : digit (g
           let here : record r { at = x.to } ≡ r₁ = moved r r₁ a.text a.here in
           subst (λ (q : Reader). Plain meant (D.one N (rest r)) 1 r q s (record s { trees = record s.trees { now = t } }) x.from) here (read_to x.from x.to a.lies)
 
-  pub not_named : (after : Words) {x : Refusal} → W.identifier (table r.text.now s.words) (rest r) ≡ refused (number x) → NotNamed meant (D.one N (rest r)) 1 r s (record s { words = after }) x
-  not_named after a = record {
+  pub not_named : (after : Words) {r₁ : Reader} {x : Refusal} → Refuses (W.identifier (table r.text.now s.words) (rest r)) x r r₁ → Fitting r.text.now after → NotNamed meant (D.one N (rest r)) 1 r r₁ s (record s { words = after }) x
+  not_named after a f = record {
     refuses = λ words m q p.
-        let read : W.identifier m.words (rest r) ≡ refused (number _) = ap (λ (ws : List Name). W.identifier ws (rest r)) (sym p.words ∙ sym q.is) ∙ a in
+        let read : W.identifier m.words (rest r) ≡ refused (number _) = ap (λ (ws : List Name). W.identifier ws (rest r)) (sym p.words ∙ sym q.is) ∙ a.is in
         refused_at N r.text.now r.at h e m read;
+    text = a.text;
+    knowing = λ k. record { words = table r.text.now after; knows = record { is = refl; fitting = f } };
     wrote = record { trees = refl; wrote = wrote_itself s.trees.now };
   }
 
-  pub not_plain : is "0" (get_or r.text.now r.at 0) ≡ false → {x : Refusal} → W.literal false (rest r) ≡ refused (number x) → Fails meant (D.one N (rest r)) 1 r s s x
+  pub not_plain : is "0" (get_or r.text.now r.at 0) ≡ false → {r₁ : Reader} {x : Refusal} → Refuses (W.literal false (rest r)) x r r₁ → Fails meant (D.one N (rest r)) 1 r r₁ s s x
   not_plain z a = record {
-    fails = λ all m p. refused_at N r.text.now r.at h e m (one_refused r.text.now r.at h z m.words a);
+    fails = λ all m p. refused_at N r.text.now r.at h e m (one_refused r.text.now r.at h z m.words a.is);
+    text = a.text;
+    knowing = λ k. k;
     wrote = lent_itself s;
   }

@@ -18,6 +18,9 @@ use Rattle.machine.specs.Beyond.{Beyond, beyond_itself, beyond_both}
 use Rattle.tree_nodes.proofs.Taking.{less_spare}
 use Rattle.tree_copies.specs.Copies.{recall_copies}
 use Rattle.tree_copies.proofs.Copies.{not_recalled}
+use Rattle.text_words.specs.Table.{table}
+use Rattle.tree_records.specs.NamesOf as NamesOf
+use Rattle.tree_records.specs.NamesOf.{names_of}
 use Rattle.tree_records.specs.declared.Trees.{Trees}
 use Rattle.run.specs.Meaning.{Laws}
 use Rattle.tree_run.specs.Meant.{room, Reads, Wrote, Lent, meant}
@@ -58,6 +61,9 @@ past_all text noted s m h times i l = not_recalled times i h (omega (arith, l, h
 pub laws_met : Laws meant
 laws_met = record {
   less = λ text noted s m h. less_spare (room 1) (room 0) (omega arith) (omega arith) (omega arith) (omega arith) h;
+  less_ready = λ s h. record { names = h.names; machine = h.machine; holds = less_spare (room 1) (room 0) (omega arith) (omega arith) (omega arith) (omega arith) h.holds };
+  stored = λ charge text noted s m h. record { names = names_of text (NamesOf.noted (table text s.words) noted); machine = m; holds = h };
+  begins = λ place l. l;
   itself = λ s. lent_itself s;
   both = λ s t u a b. record { trees = b.trees ∙ a.trees; wrote = wrote_both s.trees.now t.trees.now u.trees.now a.wrote b.wrote };
   ceiling = λ s t a. a.wrote.stays.ceiling;

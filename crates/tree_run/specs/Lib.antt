@@ -1,3 +1,4 @@
 pub mod Meant
 pub mod Laws
 pub mod Runs
+pub mod Beginnings

@@ -1,5 +1,5 @@
 -- What the reading's machine is in the definition.
-use Rattle.std.specs.Prelude.{◌≡◌, List, [], ℕ, ◌*◌}
+use Rattle.std.specs.Prelude.{◌≡◌, List, [], ℕ, ◌*◌, ◌<◌}
 use Rattle.definition.specs.Base.{Name}
 use Rattle.definition.specs.Text.{Text}
 use Rattle.definition.specs.Node.{Node}
@@ -9,7 +9,7 @@ use Rattle.definition.specs.Reading as D
 use Rattle.machine.specs.Beyond.{Beyond}
 use Rattle.text_words.specs.Table.{Lists, table}
 use Rattle.tree_nodes.specs.Gives.{spare}
-use Rattle.tree_records.specs.Holds.{Spare, Holds}
+use Rattle.tree_records.specs.Holds.{Spare, Holds, Ready}
 use Rattle.tree_records.specs.NamesOf.{noted, names_of}
 use Rattle.tree_records.specs.Trees.{Stays}
 use Rattle.tree_records.specs.declared.Trees.{Trees}
@@ -47,4 +47,6 @@ meant = record {
   holds = λ charge text all s m. Reads charge text all s m;
   knows = λ text s words. Lists text s.words words;
   wrote = λ s t. Lent s t;
+  begins_at = λ place. place < 65536;
+  ready = λ charge s. Ready s.trees.now.ws.now s.trees.now.n s.trees.now.state (room charge);
 }

@@ -9,6 +9,7 @@ ghost use Rattle.definition.specs.Text as Text;
 ghost use Rattle.tree_records.specs.Holds.{Inside};
 ghost use Rattle.tree_records.specs.Trees.{Stays};
 ghost use Rattle.tree_nodes.specs.Gives.{Kept};
+ghost use Rattle.tree_run.specs.Beginnings.{Begins};
 ghost use Rattle.tree_run.specs.Meant.{meant};
 ghost use Rattle.tree_run.specs.Laws.{laws_met};
 ghost use Rattle.tree_run.specs.Runs.{Ending};
@@ -27,6 +28,14 @@ use tree_records::{Record, State, Trees};
 pub struct Reading<'b, 'a> {
     pub trees: &'b mut Trees<'a>,
     pub words: Words,
+}
+
+// Begins a turn: counts a step, and charges 1. Nothing else of the trees changes.
+fn begin_turn(trees: &mut Trees) -> Result<(), Refusal>
+    ensures { Begins trees.old trees.new result }
+{
+    trees.state.budget = trees.state.budget.step()?.charge(trees.n, 1)?;
+    Ok(())
 }
 
 // Makes a node of the identifier that begins at a place of the text, pushes it and remembers it.
@@ -52,8 +61,7 @@ impl Machine for Reading<'_, '_> {
     ghost laws = { laws_met };
 
     fn begin(&mut self) -> Result<(), Refusal> {
-        self.trees.state.budget = self.trees.state.budget.step()?.charge(self.trees.n, 1)?;
-        Ok(())
+        begin_turn(self.trees)
     }
 
     fn note(&mut self, text: &[u8], waiting: &Waiting) {

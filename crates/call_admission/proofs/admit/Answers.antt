@@ -1,4 +1,4 @@
-use Rattle.std.proofs.Common.{arith, refl}
+use Rattle.std.proofs.Common.{arith}
 use Rattle.text_utf8.proofs.Characters.{well_formed_all}
 use Rattle.call_admission.proofs.Tests.{ceiling_zero, ceiling_past, workspace_short, text_long, text_ill_formed, no_body, read_from}
 use Rattle.call_admission.proofs.admit.Goals as goal
@@ -26,7 +26,11 @@ parts_of-requires c = well_formed_all c.args.text.now c.in_default.ensures
 pub returns-in_default-parts_of : goal.returns-in_default-parts_of
 returns-in_default-parts_of c = rw c.at_start-in_default-parts_of.ensures (no_body c.args.what c.args.need c.args.ceiling c.args.numbers c.args.text.now (omega arith) (omega arith) (omega arith) (omega arith) c.in_default.ensures c.in_default-parts_of.ensures)
 
+pub part-requires : goal.part-requires
+part-requires c = let p = c.in-Some-parts_of.ensures in (p.order, p.inside, omega arith, omega arith, p.encoded)
+
 pub returns : goal.returns
 returns c =
     let p = c.in-Some-parts_of.ensures in
-    record { body = read_from c.args.what c.args.need c.args.ceiling c.args.numbers c.args.text.now (omega arith) (omega arith) (omega arith) (omega arith) c.in_default.ensures _ _ p.inside p; ceiling = refl; long = omega arith }
+    let a = c.part.ensures in
+    record { body = read_from c.args.what c.args.need c.args.ceiling c.args.numbers c.args.text.now (omega arith) (omega arith) (omega arith) (omega arith) c.in_default.ensures _ _ p _ a.symbol; ceiling = a.ceiling; long = omega arith }

@@ -1,14 +1,14 @@
 use Rattle.std.proofs.lemmas.Result.{err_from_is_err_and}
-use Rattle.run.proofs.Chains.{standing_holding, item_done, item_fails, item_broken}
+use Rattle.run.proofs.Chains.{item_done, item_fails, item_broken}
 use Rattle.run.proofs.item.Goals as goal
 
 pub returns-in_err-copies : goal.returns-in_err-copies
 returns-in_err-copies g c =
     let p = err_from_is_err_and c.from_residual.result c.from_residual.ensures.1 in
-    rw (p.1, p.2) (item_broken g.M.Machine.meaning g.met.M.Machine.laws c.args.machine.now c.args.text.now c.in_err-copies.ensures.says)
+    rw (p.1, p.2) (item_broken g.M.Machine.meaning g.met.M.Machine.laws c.args.machine.now c.args.text.now c.in_err-copies.ensures.says c.in_err-copies.ensures.text)
 
 pub recall-requires : goal.recall-requires
-recall-requires g c = standing_holding g.M.Machine.meaning c.requires
+recall-requires g c = c.requires
 
 pub returns-in_err-recall : goal.returns-in_err-recall
 returns-in_err-recall g c =

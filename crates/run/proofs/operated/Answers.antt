@@ -1,15 +1,11 @@
 use Rattle.std.proofs.lemmas.Result.{err_from_is_err_and}
-use Rattle.std.proofs.Common.{sym}
 use Rattle.definition.specs.Enums as Enums
 use Rattle.operator_names.specs.Fixed.{fixed}
-use Rattle.run.proofs.Chains.{standing_holding, standing_less, standing_text}
 use Rattle.run.proofs.OneOperator.{is_chain, is_operator, is_refused}
 use Rattle.run.proofs.operated.Goals as goal
 
 pub substitutions-requires : goal.substitutions-requires
-substitutions-requires g c =
-    let a = rw c.if-next_if.true at c.next_if.ensures in
-    standing_text g.M.Machine.meaning (sym a.text) (standing_less g.M.Machine.meaning g.met.M.Machine.laws c.requires.0)
+substitutions-requires g c = g.met.M.Machine.laws.less_ready _ c.requires.0
 
 pub returns-then-next_if : goal.returns-then-next_if
 returns-then-next_if g c =
@@ -24,7 +20,7 @@ returns-in_err-op g c =
     (is_refused g.M.Machine.meaning g.met.M.Machine.laws c.args.text.now c.args.machine.now c.requires.1 c.requires.2 a c.in_err-op.ensures)
 
 pub perform-requires : goal.perform-requires
-perform-requires g c = standing_holding g.M.Machine.meaning c.requires.0
+perform-requires g c = c.requires.0
 
 pub returns : goal.returns
 returns g c =

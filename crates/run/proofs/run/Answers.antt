@@ -1,7 +1,7 @@
 use Rattle.std.proofs.Common.{arith, length, ap, List, ℕ, ◌∙◌}
 use Rattle.definition.specs.Text.{well_formed}
 use Rattle.text_words.proofs.Later.{waits_none}
-use Rattle.run.proofs.RunLoop.{run_first, run_standing, run_over, run_done, run_more, run_stopped}
+use Rattle.run.proofs.RunLoop.{run_first, run_ready, run_knowing, run_over, run_done, run_more, run_stopped}
 use Rattle.run.proofs.run.Goals as goal
 
 pub loop-init : goal.loop-init
@@ -17,10 +17,11 @@ pub step-requires : goal.step-requires
 step-requires g c =
     let h = c.loop.invariant in
     let text : List ℕ → ℕ = λ b. length b in (
-      run_standing g.M.Machine.meaning g.met.M.Machine.laws h,
+      run_ready g.M.Machine.meaning g.met.M.Machine.laws h,
       omega (arith, c.if-body-place.false, ap text h.text),
       omega (arith, c.requires.1, ap text h.text),
       ap well_formed h.text ∙ c.requires.2,
+      run_knowing g.M.Machine.meaning g.met.M.Machine.laws h,
       h.waits,
     )
 

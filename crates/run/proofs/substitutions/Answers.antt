@@ -6,7 +6,7 @@ pub loop-init : goal.loop-init
 loop-init g c = chain_first g.M.Machine.meaning g.met.M.Machine.laws c.requires
 
 pub item-requires : goal.item-requires
-item-requires g c = c.loop.invariant.standing
+item-requires g c = c.loop.invariant.ready
 
 pub loop-preserved : goal.loop-preserved
 loop-preserved g c =

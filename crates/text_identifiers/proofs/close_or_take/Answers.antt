@@ -14,7 +14,7 @@ pub returns-in_err-bytes : goal.returns-in_err-bytes
 returns-in_err-bytes c =
     let t = c.if-next_if.ensures in
     rw (refused_as c.from_residual.result c.from_residual.ensures.1)
-    (closing_takes (rest c.args.text.now) c.args.punycoded c.args.letters.empty c.args.letters.more t.is ∙ then_refused _ c.in_err-bytes.ensures)
+    (record { is = closing_takes (rest c.args.text.now) c.args.punycoded c.args.letters.empty c.args.letters.more t.is ∙ then_refused _ c.in_err-bytes.ensures.is; text = c.in_err-bytes.ensures.text ∙ t.text })
 
 pub returns : goal.returns
 returns c =

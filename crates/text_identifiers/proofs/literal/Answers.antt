@@ -8,11 +8,11 @@ use Rattle.text_identifiers.proofs.literal.Goals as goal
 use Rattle.text_identifiers.proofs.literal.Goals.{then-punycoded, else-punycoded}
 
 pub returns-in_err-n : goal.returns-in_err-n
-returns-in_err-n c = rw (refused_as c.from_residual.result c.from_residual.ensures.1) (literal_refused (rest c.args.text.now) c.args.punycoded c.in_err-n.ensures.says)
+returns-in_err-n c = rw (refused_as c.from_residual.result c.from_residual.ensures.1) (record { is = literal_refused (rest c.args.text.now) c.args.punycoded c.in_err-n.ensures.says; text = c.in_err-n.ensures.text })
 
 pub returns-then-n-eq0 : goal.returns-then-n-eq0
 unfolding number
-returns-then-n-eq0 c = literal_zero (rest c.args.text.now) c.args.punycoded c.if-n-eq0.true c.in_ok-n.ensures.says.is
+returns-then-n-eq0 c = record { is = literal_zero (rest c.args.text.now) c.args.punycoded c.if-n-eq0.true c.in_ok-n.ensures.says.is; text = c.in_ok-n.ensures.text }
 
 pub bytes_of-requires : goal.bytes_of-requires
 bytes_of-requires c =

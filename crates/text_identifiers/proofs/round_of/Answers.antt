@@ -15,7 +15,7 @@ pub returns-in_err-letters : goal.returns-in_err-letters
 returns-in_err-letters c =
     let a = c.args in
     rw (refused_as c.from_residual.result c.from_residual.ensures.1)
-    (ap (λ (s : Bool). round a.known s a.punycoded a.empty (rest a.text.now)) c.if-not-subs.false ∙ then_refused _ c.in_err-letters.ensures)
+    (record { is = ap (λ (s : Bool). round a.known s a.punycoded a.empty (rest a.text.now)) c.if-not-subs.false ∙ then_refused _ c.in_err-letters.ensures.is; text = c.in_err-letters.ensures.text })
 
 pub returns : goal.returns
 returns c =

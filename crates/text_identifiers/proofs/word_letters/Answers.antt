@@ -10,7 +10,7 @@ pub returns-then-known-from : goal.returns-then-known-from
 unfolding number
 returns-then-known-from c =
     let k : c.args.known ≤ c.in-Some.b - 97 = omega (arith, c.from.ensures) in
-    c.loop-b.invariant.same ∙ letters_unknown c.args.known c.loop-b.empty c.in-Some.ensures.is (sym c.is_lower.ensures ∙ c.if-is_lower.true) k
+    record { is = c.loop-b.invariant.same ∙ letters_unknown c.args.known c.loop-b.empty c.in-Some.ensures.is (sym c.is_lower.ensures ∙ c.if-is_lower.true) k; text = c.loop-b.invariant.text }
 
 pub loop-b-preserved : goal.loop-b-preserved
 loop-b-preserved c =
@@ -26,7 +26,7 @@ pub returns-then-known-from-2 : goal.returns-then-known-from-2
 unfolding number
 returns-then-known-from-2 c =
     let k : c.args.known ≤ c.in-Some.b - 65 = omega (arith, c.from-then-is_upper.ensures) in
-    c.loop-b.invariant.same ∙ letters_last_unknown c.args.known c.loop-b.empty c.in-Some.ensures.is (sym c.is_lower.ensures ∙ c.if-is_lower.false) (sym c.is_upper.ensures ∙ c.if-is_upper.true) k
+    record { is = c.loop-b.invariant.same ∙ letters_last_unknown c.args.known c.loop-b.empty c.in-Some.ensures.is (sym c.is_lower.ensures ∙ c.if-is_lower.false) (sym c.is_upper.ensures ∙ c.if-is_upper.true) k; text = c.loop-b.invariant.text }
 
 pub returns-then-is_upper : goal.returns-then-is_upper
 returns-then-is_upper c =

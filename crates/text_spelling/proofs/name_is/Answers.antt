@@ -12,4 +12,4 @@ pub returns-in-None : goal.returns-in-None
 returns-in-None c = comparing_differs c.args.text.now c.args.known.now c.args.p c.args.fixed.now c.loop-bytes.invariant c.in-Some.ensures c.in-None.ensures.cases refl
 
 pub returns : goal.returns
-returns c = comparing_end c.args.text.now c.args.known.now c.args.p c.args.fixed.now c.loop-bytes.invariant c.in_default.ensures (c.is_empty.ensures ∙ empty_same c.loop-bytes.left.now)
+returns c = comparing_end c.args.text.now c.args.known.now c.args.p c.args.fixed.now c.loop-bytes.invariant c.in_default.ensures.is (c.is_empty.ensures ∙ empty_same c.loop-bytes.left.now)

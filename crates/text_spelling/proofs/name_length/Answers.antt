@@ -8,4 +8,4 @@ pub loop-bytes-preserved : goal.loop-bytes-preserved
 loop-bytes-preserved c = counting_next c.args.text.now c.args.known.now c.args.p c.loop-bytes.invariant c.in-Some.ensures
 
 pub returns : goal.returns
-returns c = counting_end c.args.text.now c.args.known.now c.args.p c.loop-bytes.invariant c.in_default.ensures
+returns c = counting_end c.args.text.now c.args.known.now c.args.p c.loop-bytes.invariant c.in_default.ensures.is

@@ -12,4 +12,4 @@ pub returns-then-is_past : goal.returns-then-is_past
 returns-then-is_past c = writing_past c.args.text.now c.args.known.now c.args.p (writing_next c.args.text.now c.args.known.now c.args.p c.loop-bytes.invariant c.in-Some.ensures c.put.ensures) (grind arith)
 
 pub returns : goal.returns
-returns c = writing_end c.args.text.now c.args.known.now c.args.p c.loop-bytes.invariant c.in_default.ensures
+returns c = writing_end c.args.text.now c.args.known.now c.args.p c.loop-bytes.invariant c.in_default.ensures.is

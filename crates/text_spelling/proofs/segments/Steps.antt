@@ -19,7 +19,7 @@ use Rattle.std.specs.Prelude.{Option}
 use Rattle.std.proofs.Math.Option as M
 use Rattle.text_words.specs.Table.{Words, table}
 use Rattle.text_spelling.specs.Measures.{Measured, MeasuredIs}
-use Rattle.text_spelling.specs.SegmentsRead.{Begun, Taken, SegmentIs, WordIs, Letter, NoLetter, coming}
+use Rattle.text_spelling.specs.SegmentsRead.{Begun, Taken, NoSegment, SegmentIs, WordIs, Letter, NoLetter, coming}
 use Rattle.text_spelling.specs.declared.segments.Segments.{Segments}
 use Rattle.text_spelling.specs.Segments.{Segment, segment, end, counted, of_bytes, of_length, unless_closed, literal_segment, of_word, segment_of, lead, second_zero, start}
 
@@ -123,7 +123,7 @@ measures {old = old} new b (Some bytes) t = record {
   onward = omega (arith, t.onward, b.onward);
   inside = t.inside;
 }
-measures new b None s = record { is = λ more. b.is more ∙ ap (of_bytes more) (bytes_short b.inside s) }
+measures new b None s = record { is = λ more. b.is more ∙ ap (of_bytes more) (bytes_short b.inside s); text = ap (λ (x : Reader). x.text) s.same ∙ b.text }
 
 module _ {s : Segments} {new : Reader} {bytes : Name} (t : Measured bytes s.punycoded s.text new) where
   pub part_more : s.more ≡ true → {r : Segments} → r.text ≡ new → r.words ≡ s.words → r.more ≡ s.more → r.punycoded ≡ s.punycoded → Taken (of_length s.more s.punycoded (natural (rest s.text))) bytes s r
@@ -151,7 +151,7 @@ module _ {s : Segments} {new : Reader} {bytes : Name} (t : Measured bytes s.puny
 -- a segment after a step
 pub segment_is : {out out' : Segment} (old mid new : Segments) (r : Option (Bor (List ℕ))) → out ≡ out' → mid.text.text ≡ old.text.text → mid.words ≡ old.words → mid.punycoded ≡ old.punycoded → old.text.at ≤ mid.text.at → SegmentIs out' mid new r → SegmentIs out old new r
 segment_is old mid new (Some b) e t w k l h = record { is = e ∙ h.is; text = h.text ∙ t; words = h.words ∙ w; kept = h.kept ∙ k; short = rw (← t) h.short; onward = omega (arith, h.onward); within = rw (← t) h.within }
-segment_is old mid new None e t w k l h = e ∙ h
+segment_is old mid new None e t w k l h = record { is = e ∙ h.is; text = h.text ∙ t; words = h.words ∙ w }
 
 -- a letter, and its word
 module _ (s : Segments) {new : Reader} {b i : ℕ} (m : s.more ≡ true) (t : TookByte b s.text new) where
@@ -183,11 +183,15 @@ letter_word s r {i} (Some b) l w = record {
   onward = l.onward;
   within = l.within;
 }
-letter_word s r None l w = same_word s r l ∙ ap (λ (o : M.Option Name). of_word o r.more (rest r.text)) w
+letter_word s r None l w = record { is = same_word s r l ∙ ap (λ (o : M.Option Name). of_word o r.more (rest r.text)) w; text = l.text; words = l.words }
 
 module _ {s r : Segments} (n : NoLetter s r) {new : Reader} where
-  pub next_closed : Took (next_if (is "0")) r.text new → coming s ≡ end
-  next_closed t = n.is (table s.text.text.now s.words.now) ∙ literal_closed s.more s.punycoded (rest s.text) (ap (λ (x : Segments). next_if (is "0") (rest x.text)) (sym n.same) ∙ t.is)
+  pub next_closed : Took (next_if (is "0")) r.text new → (last : Segments) → last.text ≡ new → last.words ≡ r.words → NoSegment (coming s) s last
+  next_closed t last e w = record {
+    is = n.is (table s.text.text.now s.words.now) ∙ literal_closed s.more s.punycoded (rest s.text) (ap (λ (x : Segments). next_if (is "0") (rest x.text)) (sym n.same) ∙ t.is);
+    text = ap (λ (x : Reader). x.text) e ∙ t.text ∙ ap (λ (x : Segments). x.text.text) n.same;
+    words = w ∙ ap (λ (x : Segments). x.words) n.same;
+  }
 
   next_open : Left (next_if (is "0")) r.text new → coming s ≡ of_length s.more s.punycoded (natural (rest new))
   next_open t = n.is (table s.text.text.now s.words.now) ∙ literal_open s.more s.punycoded (rest s.text) (ap (λ (x : Segments). next_if (is "0") (rest x.text)) (sym n.same) ∙ t.is)

@@ -10,7 +10,7 @@ use lib.ListN.{length, take, drop, get_elem?, length-append, length-drop, length
 use Rattle.definition.specs.Base.{Name}
 use Rattle.definition.specs.Text.{Text}
 use Rattle.text_words.specs.declared.spans.Span.{Span}
-use Rattle.text_words.specs.Table.{span_at, word_of, words_of, table, Fitting}
+use Rattle.text_words.specs.Table.{span_at, spans_of, word_of, words_of, table, Fitting}
 use Rattle.text_words.specs.Table.{Words}
 use Rattle.text_spelling.specs.SegmentsRead.{Word}
 
@@ -50,11 +50,11 @@ module _ (text : Text) (spans : List Span) where
 
 module _ (text : Text) (w : Words) (i : ℕ) where
   pub no_word : w.count ≤ i → get_elem? (table text w) i ≡ none
-  no_word h = found_none (table text w) i (omega (arith, words_length text w.spans w.count))
+  no_word h = found_none (table text w) i (omega (arith, words_length text (spans_of w) w.count))
 
-  pub the_word : {from to : ℕ} {s : Span} {bytes : Name} → s ≡ span_at w.spans i → from ≡ s.start → to ≡ s.start + s.length → i < w.count → Fitting text w → bytes ≡ take (to - from) (drop from text) → Word (get_elem? (table text w) i) text bytes
+  pub the_word : {from to : ℕ} {s : Span} {bytes : Name} → s ≡ span_at (spans_of w) i → from ≡ s.start → to ≡ s.start + s.length → i < w.count → Fitting text w → bytes ≡ take (to - from) (drop from text) → Word (get_elem? (table text w) i) text bytes
   the_word {from} {to} {s} {bytes} e a b h g k =
       let n : to - from ≡ s.length = omega arith in
-      let q : bytes ≡ word_of text w.spans i = k ∙ ap (λ (m : ℕ). take m (drop from text)) n ∙ ap (λ (f : ℕ). take s.length (drop f text)) a ∙ ap (λ (t : Span). take t.length (drop t.start text)) e in
+      let q : bytes ≡ word_of text (spans_of w) i = k ∙ ap (λ (m : ℕ). take m (drop from text)) n ∙ ap (λ (f : ℕ). take s.length (drop f text)) a ∙ ap (λ (t : Span). take t.length (drop t.start text)) e in
       let l : length bytes ≤ length (drop from text) = rw k (omega (arith, length-take (to - from) (drop from text))) in
-      record { is = words_at text w.spans w.count i h ∙ ap (λ (x : Name). some x) (sym q); short = omega (arith, l, length-drop from text) }
+      record { is = words_at text (spans_of w) w.count i h ∙ ap (λ (x : Name). some x) (sym q); short = omega (arith, l, length-drop from text) }

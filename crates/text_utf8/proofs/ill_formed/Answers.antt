@@ -12,7 +12,7 @@ loop-b-init c =
 pub returns-in_default-character : goal.returns-in_default-character
 returns-in_default-character c =
     let h = c.in-Some.ensures.lookup.3 in
-    scan_bad c.loop-b.invariant h.0 (ap (λ (b : ℕ). character b (drop (c.loop-b.at + 1) c.args.text.now)) (sym (h.1 0)) ∙ c.in_default-character.ensures)
+    scan_bad c.loop-b.invariant h.0 (ap (λ (b : ℕ). character b (drop (c.loop-b.at + 1) c.args.text.now)) (sym (h.1 0)) ∙ c.in_default-character.ensures.is)
 
 pub loop-b-preserved : goal.loop-b-preserved
 loop-b-preserved c =

@@ -8,7 +8,7 @@ use Rattle.check_run.proofs.Steps.{any_words}
 use Rattle.check_run.proofs.CheckMachine.perform.Goals as goal
 
 pub perform-requires : goal.perform-requires
-perform-requires c = c.requires.holds.sound
+perform-requires c = c.requires
 
 pub returns : goal.returns
 returns c =

@@ -22,13 +22,14 @@ pub returns-in_err-n : goal.returns-in_err-n
 returns-in_err-n c =
     refused_on c.in_err-n.was
     (then_refused signed (c.loop.invariant.same ∙ turn c.loop.params c.loop.counter _ (omega arith) ∙ counts_refused (most_wraps - c.loop.counter - 1) c.loop.params _ c.in_err-n.ensures.says))
+    (c.in_err-n.ensures.text ∙ c.loop.invariant.text)
     c.from_residual.ensures.1
 
 pub returns-in_default : goal.returns-in_default
 unfolding Enums.operator
 returns-in_default c =
     let n = c.in_ok-n.ensures.says in
-    record { says = record { is = then_ok signed (c.loop.invariant.same ∙ turn c.loop.params c.loop.counter _ (omega arith) ∙ counts_closed (most_wraps - c.loop.counter - 1) c.loop.params _ (n.is ∙ ap (λ o. ok (count_if_any o) (rest c.count.new.text)) c.in_default.is)); text = n.text ∙ c.loop.invariant.text; inside = n.inside; onward = omega arith } }
+    record { says = record { is = then_ok signed (c.loop.invariant.same ∙ turn c.loop.params c.loop.counter _ (omega arith) ∙ counts_closed (most_wraps - c.loop.counter - 1) c.loop.params _ (n.is ∙ ap (λ o. ok (count_if_any o) (rest c.count.new.text)) c.in_default.is)); text = n.text ∙ c.loop.invariant.text; inside = n.inside; onward = omega arith }; text = n.text ∙ c.loop.invariant.text }
 
 pub loop-preserved : goal.loop-preserved
 loop-preserved c =
@@ -45,9 +46,10 @@ pub returns-then-next_if : goal.returns-then-next_if
 unfolding Enums.operator
 returns-then-next_if c =
     let l = c.if-next_if.ensures in
-    record { says = record { is = then_ok signed (c.loop.invariant.same ∙ past c.loop.params c.loop.counter _ (omega arith) ∙ counts_last c.loop.params _ l.is); text = l.text ∙ c.loop.invariant.text; inside = l.inside; onward = omega arith } }
+    record { says = record { is = then_ok signed (c.loop.invariant.same ∙ past c.loop.params c.loop.counter _ (omega arith) ∙ counts_last c.loop.params _ l.is); text = l.text ∙ c.loop.invariant.text; inside = l.inside; onward = omega arith }; text = l.text ∙ c.loop.invariant.text }
 
 pub returns : goal.returns
 unfolding Enums.number
 returns c =
-    record { says = then_refused signed (c.loop.invariant.same ∙ past c.loop.params c.loop.counter _ (omega arith) ∙ counts_deep c.loop.params _ c.if-next_if.ensures.is) }
+    let l = c.if-next_if.ensures in
+    record { says = then_refused signed (c.loop.invariant.same ∙ past c.loop.params c.loop.counter _ (omega arith) ∙ counts_deep c.loop.params _ l.is); text = l.text ∙ c.loop.invariant.text }

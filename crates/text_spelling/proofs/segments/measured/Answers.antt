@@ -4,7 +4,7 @@ use Rattle.text_spelling.proofs.segments.measured.Goals as goal
 use Rattle.text_spelling.proofs.segments.measured.Goals.{then-punycoded, else-punycoded}
 
 pub returns-then-n-eq0 : goal.returns-then-n-eq0
-returns-then-n-eq0 c = record { is = λ more. length_none more c.args.punycoded (rest c.args.text.now) c.if-n-eq0.true c.in-Ok.ensures.says.is }
+returns-then-n-eq0 c = record { is = λ more. length_none more c.args.punycoded (rest c.args.text.now) c.if-n-eq0.true c.in-Ok.ensures.says.is; text = c.in-Ok.ensures.text }
 
 pub returns : goal.returns
 returns c =

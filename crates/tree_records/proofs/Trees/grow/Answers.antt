@@ -1,12 +1,9 @@
-use Rattle.std.proofs.Common.{◌*◌, refl, arith}
-use Rattle.machine.specs.Kinds.{kind_of}
+use Rattle.std.proofs.Common.{arith}
 use Rattle.tree_records.proofs.Places.{grew}
-use Rattle.tree_records.proofs.Stores.{eight, wrote}
 use Rattle.tree_records.proofs.Trees.grow.Goals as goal
 
+pub make-requires : goal.make-requires
+make-requires c = omega (arith, c.requires.long, c.requires.room, c.requires.charged)
+
 pub returns-clause-grew : goal.returns-clause-grew
-returns-clause-grew c =
-    let t = c.args.self.now in
-    let r = c.args.made in
-    rw c.code.ensures
-    (grew _ _ _ t.state _ c.requires (wrote t.ws.now _ t.state.top _ refl (omega (arith, c.requires.long, c.requires.room, c.requires.charged)) (eight t.ws.now (8 * t.state.top) (kind_of r.kind) r.size r.count r.a r.b r.c r.d r.e)))
+returns-clause-grew c = grew _ _ _ c.args.self.now.state _ c.requires (rw c.code.ensures at c.make.ensures)

@@ -1,10 +1,7 @@
 use Rattle.definition.specs.Enums as Enums
 use Rattle.definition.specs.Perform as R
-use Rattle.tree_run.proofs.Steps.{holding_ready, operates}
+use Rattle.tree_run.proofs.Steps.{operates}
 use Rattle.tree_run.proofs.ReadingMachine.perform.Goals as goal
-
-pub perform-requires : goal.perform-requires
-perform-requires c = holding_ready c.requires
 
 pub returns : goal.returns
 returns c =

@@ -1,8 +1,5 @@
-use Rattle.tree_run.proofs.Steps.{holding_ready, recalls}
+use Rattle.tree_run.proofs.Steps.{recalls}
 use Rattle.tree_run.proofs.ReadingMachine.recall.Goals as goal
-
-pub recall-requires : goal.recall-requires
-recall-requires c = holding_ready c.requires
 
 pub returns : goal.returns
 returns c = recalls c.args.self.now c.recall.new.trees c.recall.ensures.stays c.args.times c.args.index c.recall.result c.recall.ensures.recalled

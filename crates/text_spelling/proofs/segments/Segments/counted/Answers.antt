@@ -4,7 +4,7 @@ use Rattle.text_spelling.proofs.segments.Segments.counted.Goals as goal
 use Rattle.text_spelling.proofs.segments.Segments.counted.Goals.{then-not-self, else-not-self}
 
 pub returns-in_err-bytes : goal.returns-in_err-bytes
-returns-in_err-bytes c = rw c.from_residual.ensures (c.in_err-bytes.ensures.is c.args.self.now.more)
+returns-in_err-bytes c = rw c.from_residual.ensures (record { is = c.in_err-bytes.ensures.is c.args.self.now.more; text = refl; words = refl })
 
 pub returns : goal.returns
 returns c = elim c.if-not-self.branch [
