@@ -88,6 +88,7 @@ module _ (c d : Check) (lent : d.entries.ghost_name ≡ c.entries.ghost_name) (r
         holds = record { is = ap (λ (v : ℕ). machine_of (with_words v d.entries.now)) (some_many d.entries.now.state.words); sound = sound_name n p.sound g };
       };
     };
+    knowing = λ w. record { words = some_words d.entries.now.state.words; knows = some_many d.entries.now.state.words };
     text = a.text;
     inside = a.inside;
     wrote = record { lent = lent; entries = g.wrote };

@@ -213,6 +213,7 @@ module _ {S : Type 0} (k : Meaning S) (l : Laws k) where
                     holds = subst (λ (ws : List Name). k.holds 0 r.text.now ws u a.after.machine) (sym (noted_nothing W.note_words r.text.now p a.words z)) a.after.holds;
                   };
                 };
+            knowing = λ h. g.knowing (noted_knowing n (begun_knowing h));
             text = g.text;
             inside = g.inside;
             waits = w;

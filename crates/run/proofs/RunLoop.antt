@@ -20,6 +20,7 @@ use Rattle.text_words.specs.Waits.{Waiting, Waits, More}
 use Rattle.text_words.proofs.Later.{noted_nothing}
 use Rattle.run.specs.Meaning.{Meaning, Machines, Knowing, Plain, Fails, Laws}
 use Rattle.run.specs.Turns.{Turning, turn_at, behind, Turned, NotTurned, Stepping, NameTurning, runs, Starts, Ran, Stops}
+use Rattle.run.proofs.Chains.{knowing_on}
 
 -- ONE TURN, and the literals that wait after it
 module _ {S : Type 0} (k : Meaning S) (r : Reader) (s u : S) (q : Waiting) where
@@ -30,6 +31,7 @@ module _ {S : Type 0} (k : Meaning S) (r : Reader) (s u : S) (q : Waiting) where
   pub step_on : (r₁ : Reader) → Waits r.text.now q → (o : Result Done Refusal) → Turning k (turn_at k r s) 0 r r₁ s u o → Stepping k r r₁ q q s u o
   step_on r₁ w (Ok x) g = record {
     turned = λ words m p h. record { words = words; knows = g.knows words p; after = g.reaches (behind k r.text.now q words) m h };
+    knowing = knowing_on k g.knows;
     text = g.text;
     inside = g.inside;
     waits = w;
@@ -52,6 +54,7 @@ module _ {S : Type 0} (k : Meaning S) (r : Reader) (s u : S) (q : Waiting) where
           knows = g.knows words e;
           after = record { machine = a.machine; is = a.is; holds = subst (λ (ws : List Name). k.holds 0 r.text.now ws u a.machine) (sym (w.words words)) a.holds };
         };
+    knowing = knowing_on k g.knows;
     text = g.text;
     inside = g.inside;
     waits = w.waits;

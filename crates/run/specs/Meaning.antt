@@ -100,6 +100,7 @@ module _ {S : Type 0} (k : Meaning S) where
 
   pub record Names (f : Step Machines Text) (i : ℕ) (r r₁ : Reader) (s t : S) : Type 0 where
     pub names : (words : List Name) (m : Machines) → k.knows r.text.now s words → k.holds i r.text.now words s m → Named f r r₁ t m
+    pub knowing : Knowing r.text.now s → Knowing r.text.now t
     pub text : r₁.text ≡ r.text
     pub inside : r₁.at ≤ length r₁.text.now
     pub wrote : k.wrote s t

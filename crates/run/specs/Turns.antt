@@ -68,6 +68,7 @@ module _ {S : Type 0} (k : Meaning S) where
 
   pub record Turned (r r₁ : Reader) (q q₁ : Waiting) (s t : S) : Type 0 where
     pub turned : (words : List Name) (m : Machines k) → k.knows r.text.now s words → k.holds 0 r.text.now (behind r.text.now q words) s m → Moved r r₁ q₁ s t m
+    pub knowing : Knowing k r.text.now s → Knowing k r.text.now t
     pub text : r₁.text ≡ r.text
     pub inside : r₁.at ≤ length r₁.text.now
     pub waits : Waits r.text.now q₁

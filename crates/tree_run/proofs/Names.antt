@@ -99,6 +99,7 @@ module _ (s : Reading) (r : Reader) (h : r.at < length r.text.now) (e : digit (g
             knows = record { is = refl; fitting = f };
             after = record { machine = o.0; is = o.1 ∙ ap (λ (b : Bor (List ℕ)). ok (drop r₁.at b.now) o.0) (sym a.is.text); holds = rw y.ceiling o.2 };
           };
+      knowing = λ w. record { words = table r.text.now after; knows = record { is = refl; fitting = f } };
       text = a.is.text;
       inside = a.is.inside;
       wrote = record { trees = refl; wrote = wrote };
