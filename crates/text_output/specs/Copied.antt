@@ -1,7 +1,7 @@
 -- A slice into which a part of a text was copied. Assumes nothing.
 use Rattle.std.specs.Prelude.{List, ◌++◌, ℕ, ◌+◌, ◌-◌, take, drop}
 
--- the bytes from one place to another
+-- the bytes from one place to another, as `part` of text_cursor, which this crate does not use
 abbrev pub part : List ℕ → ℕ → ℕ → List ℕ
 part text from to = take (to - from) (drop from text)
 
