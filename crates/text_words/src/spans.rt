@@ -1,5 +1,6 @@
 // Parts of a text of at most 65,535 bytes, kept in a row.
-ghost use Rattle.std.specs.Prelude.{◌≡◌, ◌+◌, ◌-◌, ◌≤◌, ◌<◌, slice_set, take};
+ghost use Rattle.std.specs.Prelude.{◌≡◌, ◌+◌, ◌-◌, ◌≤◌, ◌<◌, slice_set, MatchOption, take};
+ghost use Rattle.text_words.specs.Table.{span_at};
 
 // Where a part starts, and how long it is.
 #[derive(Clone, Copy)]
@@ -78,5 +79,30 @@ impl<const N: usize> Spans<N> {
         ensures { result.now ≡ take self.now.count self.now.spans }
     {
         &self.spans[..self.count]
+    }
+
+    // Returns the part with number i.
+    pub fn get(&self, i: usize) -> Option<Span>
+        requires { self.now.count ≤ N }
+        ensures { MatchOption result (self.now.count ≤ i) (λ s. (i < self.now.count) × (s ≡ span_at self.now.spans i)) }
+    {
+        self.as_slice().get(i).copied()
+    }
+}
+
+#[cfg(test)]
+mod tests {
+    use super::*;
+
+    #[test]
+    fn gets_a_part_and_none_past_the_last(rt: HostRuntime) {
+        let mut parts = Spans::<3>::new();
+        parts.push(Span::new(2, 5));
+        parts.push(Span::new(7, 8));
+        let first = parts.get(0).map(|s| (s.from(), s.to()));
+        let second = parts.get(1).map(|s| (s.from(), s.to()));
+        assert_eq!(rt; first, Some((2, 5)));
+        assert_eq!(rt; second, Some((7, 8)));
+        assert!(rt; parts.get(2).is_none(), "a third was never pushed");
     }
 }
