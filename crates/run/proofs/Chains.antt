@@ -15,10 +15,20 @@ use Rattle.definition.specs.declared.Refusal.{Refusal}
 use Rattle.text_cursor.specs.Reads.{rest}
 use Rattle.text_cursor.specs.declared.Reader.{Reader}
 use Rattle.operator_substitutions.specs.Chain.{Chain, ended, chain, outcome, Same, Begins, Ends, Breaks, Item}
-use Rattle.run.specs.Meaning.{Meaning, Machines, Knowing, recalled, Does, Refuses, Fails, Laws}
+use Rattle.run.specs.Meaning.{Meaning, Machines, Knowing, Holding, Standing, AtName, ReadyAtName, recalled, Does, Refuses, Fails, Laws}
 use Rattle.run.specs.Turns.{Reaches, chained, Goes, Letters}
 
+-- what some machine stands for
+pub standing_holding : {S : Type 0} (k : Meaning S) {j : ℕ} {text : Text} {s : S} → Standing k j text s → Holding k j s
+standing_holding k {text = text} h = record { text = text; noted = h.noted; machine = h.machine; holds = h.holds }
+
+pub standing_knowing : {S : Type 0} (k : Meaning S) {j : ℕ} {text : Text} {s : S} → Standing k j text s → Knowing k text s
+standing_knowing k h = record { words = h.words; knows = h.knows }
+
 -- the same text, as a reader has it later
+pub standing_text : {S : Type 0} (k : Meaning S) {j : ℕ} {b c : Bor (List ℕ)} {s : S} → b ≡ c → Standing k j b.now s → Standing k j c.now s
+standing_text k {j} {s = s} e h = subst (λ (x : Bor (List ℕ)). Standing k j x.now s) e h
+
 pub knowing_text : {S : Type 0} (k : Meaning S) {b c : Bor (List ℕ)} {s : S} → b ≡ c → Knowing k b.now s → Knowing k c.now s
 knowing_text k {s = s} e h = subst (λ (x : Bor (List ℕ)). Knowing k x.now s) e h
 
@@ -27,6 +37,19 @@ pub knowing_on : {S : Type 0} (k : Meaning S) {text text₁ : Text} {s t : S} �
 knowing_on k f h = record { words = h.words; knows = f h.words h.knows }
 
 module _ {S : Type 0} (k : Meaning S) (l : Laws k) where
+  pub standing_less : {text : Text} {s : S} → Standing k 1 text s → Standing k 0 text s
+  standing_less {text} {s} h = record { words = h.words; noted = h.noted; machine = h.machine; knows = h.knows; holds = l.less text h.noted s h.machine h.holds }
+
+  -- a machine that is held is stored
+  pub holding_ready : {j : ℕ} {s : S} → Holding k j s → k.ready j s
+  holding_ready {j} {s} h = l.stored j h.text h.noted s h.machine h.holds
+
+  pub standing_ready : {j : ℕ} {text : Text} {s : S} → Standing k j text s → k.ready j s
+  standing_ready h = holding_ready (standing_holding k h)
+
+  pub name_ready : {r : Reader} {s : S} → AtName k r s → ReadyAtName k 1 r s
+  name_ready h = record { ready = standing_ready h.standing; inside = h.inside; begins = h.begins; formed = h.formed }
+
   -- ONE ITEM
   module _ (s : S) (r : Reader) where
     abbrev N : ℕ
@@ -96,6 +119,9 @@ module _ {S : Type 0} (k : Meaning S) (l : Laws k) where
 
   knows_text : {b c : Bor (List ℕ)} (words : List Name) (v : S) → b ≡ c → k.knows b.now v words → k.knows c.now v words
   knows_text words v e q = subst (λ (x : Bor (List ℕ)). k.knows x.now v words) e q
+
+  pub chain_standing : {r₀ r : Reader} {s t : S} → Chaining k r₀ r s t → Standing k 0 r₀.text.now s → Standing k 0 r.text.now t
+  chain_standing h z = let a = h.goes z.noted z.machine z.holds in record { words = z.words; noted = z.noted; machine = a.0; knows = h.knows z.words z.knows; holds = a.2 }
 
   module _ {r₀ r r₁ : Reader} {s t u : S} (h : Chaining k r₀ r s t) where
     pub chain_more : Goes k r r₁ t u → Chaining k r₀ r₁ s u

@@ -28,7 +28,7 @@ use Rattle.operator_letters.proofs.Choices.{first_is}
 use Rattle.operator_substitutions.proofs.ChainLaws.{operator_chain}
 use Rattle.text_words.specs.Waits.{Waiting, Waits}
 use Rattle.text_words.proofs.Later.{noted_nothing}
-use Rattle.run.specs.Meaning.{Meaning, Machines, Knowing, begun, Does, Refuses, Steps, Notes, Naming, PlainNaming, Fails, Laws}
+use Rattle.run.specs.Meaning.{Meaning, Machines, Knowing, Standing, begun, Does, Refuses, Steps, Notes, Naming, PlainNaming, Fails, Laws}
 use Rattle.run.specs.Turns.{Turning, chained, turn_at, behind, NotTurned, NameTurning}
 use Rattle.run.proofs.Chains.{knowing_text, knowing_on}
 
@@ -133,7 +133,7 @@ module _ {S : Type 0} (k : Meaning S) (l : Laws k) where
   module _ (r : Reader) {s t : S} where
     -- it is refused at its beginning
     module _ {x : Refusal} (b : Refuses k (begun k (k.ceiling s)) 0 s t x) where
-      turn_not : (noted : List Name) (m : Machines k) → k.holds 0 r.text.now noted s m → turn_at k r s m ≡ refused (number x)
+      pub turn_not : (noted : List Name) (m : Machines k) → k.holds 0 r.text.now noted s m → turn_at k r s m ≡ refused (number x)
       turn_not noted m h = turn_is (k.ceiling s) (rest r) m ∙ rw (b.refuses r.text.now noted m h) refl
 
       pub not_begun : Fails k (turn_at k r s) 0 r r s t x
@@ -144,15 +144,20 @@ module _ {S : Type 0} (k : Meaning S) (l : Laws k) where
 
     -- it begins, and its operator follows
     module _ (b : Does k (begun k (k.ceiling s)) 0 1 s t) where
-      turn_then : (noted : List Name) (m : Machines k) (h : k.holds 0 r.text.now noted s m) → turn_at k r s m ≡ k.one (k.ceiling t) (rest r) (b.does r.text.now noted m h).machine
+      pub turn_then : (noted : List Name) (m : Machines k) (h : k.holds 0 r.text.now noted s m) → turn_at k r s m ≡ k.one (k.ceiling t) (rest r) (b.does r.text.now noted m h).machine
       turn_then noted m h =
           turn_is (k.ceiling s) (rest r) m ∙ (rw (b.does r.text.now noted m h).is refl
           ∙ ap (λ (N : ℕ). k.one N (rest r) (b.does r.text.now noted m h).machine) (sym (l.ceiling s t b.wrote)))
 
+      pub begun_standing : Standing k 0 r.text.now s → Standing k 1 r.text.now t
+      begun_standing h =
+          let z = b.does r.text.now h.noted h.machine h.holds in
+          record { words = h.words; noted = h.noted; machine = z.machine; knows = b.knows r.text.now h.words h.knows; holds = z.holds }
+
       pub begun_knowing : Knowing k r.text.now s → Knowing k r.text.now t
       begun_knowing = knowing_on k (b.knows r.text.now)
 
-      begun_fails : {r₁ : Reader} {u : S} {x : Refusal} → Fails k (k.one (k.ceiling t) (rest r)) 1 r r₁ t u x → Fails k (turn_at k r s) 0 r r₁ s u x
+      pub begun_fails : {r₁ : Reader} {u : S} {x : Refusal} → Fails k (k.one (k.ceiling t) (rest r)) 1 r r₁ t u x → Fails k (turn_at k r s) 0 r r₁ s u x
       begun_fails {u = u} g = record {
         fails = λ noted m h. let d = b.does r.text.now noted m h in turn_then noted m h ∙ g.fails noted d.machine d.holds;
         text = g.text;

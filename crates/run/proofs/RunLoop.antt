@@ -18,9 +18,10 @@ use Rattle.text_cursor.specs.Reads.{rest}
 use Rattle.text_cursor.specs.declared.Reader.{Reader}
 use Rattle.text_words.specs.Waits.{Waiting, Waits, More}
 use Rattle.text_words.proofs.Later.{noted_nothing}
-use Rattle.run.specs.Meaning.{Meaning, Machines, Knowing, Plain, Fails, Laws}
+use Rattle.run.specs.Meaning.{Meaning, Machines, Knowing, Standing, begun, Does, Notes, Plain, Fails, Laws}
 use Rattle.run.specs.Turns.{Turning, turn_at, behind, Turned, NotTurned, Stepping, NameTurning, runs, Starts, Ran, Stops}
 use Rattle.run.proofs.Chains.{knowing_on}
+use Rattle.run.proofs.OneOperator.{begun_fails}
 
 -- ONE TURN, and the literals that wait after it
 module _ {S : Type 0} (k : Meaning S) (r : Reader) (s u : S) (q : Waiting) where
@@ -61,6 +62,15 @@ module _ {S : Type 0} (k : Meaning S) (r : Reader) (s u : S) (q : Waiting) where
     wrote = g.wrote;
   }
 
+module _ {S : Type 0} (k : Meaning S) (l : Laws k) (r : Reader) where
+  module _ (r₁ : Reader) {s t : S} (b : Does k (begun k (k.ceiling s)) 0 1 s t) (u : S) (q : Waiting) where
+    pub step_not_plain : {x : Refusal} → Fails k (k.one (k.ceiling t) (rest r)) 1 r r₁ t u x → NotTurned k r r₁ q s u x
+    step_not_plain g = step_not k r s u q (begun_fails k l r b g)
+
+-- what the words of the waiting literals add to
+pub noted_standing : {S : Type 0} (k : Meaning S) {text : Text} {q : Waiting} {s t : S} → Notes k text q s t → Standing k 1 text s → Standing k 1 text t
+noted_standing k {text} {q} n h = record { words = behind k text q h.words; noted = h.noted; machine = h.machine; knows = n.knows h.words h.knows; holds = n.holds 1 h.words h.noted h.machine h.knows h.holds }
+
 -- THE LOOP: i turns are done, and the rest has the same result as the whole
 pub record Running {S : Type 0} (k : Meaning S) (n : ℕ) (body : Text) (s t : S) (i : ℕ) (r : Reader) (q : Waiting) : Type 0 where
   pub words : List Name
@@ -88,6 +98,9 @@ module _ {S : Type 0} (k : Meaning S) (l : Laws k) where
   }
 
   module _ {n : ℕ} {body : Text} {s t : S} {i : ℕ} {r : Reader} {q : Waiting} (h : Running k n body s t i r q) where
+    pub run_standing : Standing k 0 r.text.now t
+    run_standing = record { words = h.words; noted = behind k r.text.now q h.words; machine = h.machine; knows = h.knows; holds = h.holds }
+
     pub run_knowing : Knowing k r.text.now t
     run_knowing = record { words = h.words; knows = h.knows }
 

@@ -50,10 +50,34 @@ module _ {S : Type 0} (k : Meaning S) where
     pub knows : k.knows text s words
 
   -- a machine is stored, and a name of a body begins at the reader's place
-  pub record AtName (charge : ℕ) (r : Reader) (s : S) : Type 0 where
+  pub record ReadyAtName (charge : ℕ) (r : Reader) (s : S) : Type 0 where
     pub ready : k.ready charge s
     pub inside : r.at < length r.text.now
     pub begins : digit (get_or r.text.now r.at 0) ≡ true
+    pub formed : well_formed r.text.now ≡ true
+
+  -- WHAT A CALLER MAY HOLD, which gives what the functions ask (`holding_ready`, `standing_ready`,
+  -- `standing_knowing` and `name_ready` of proofs/Chains): some machine is held
+  pub record Holding (charge : ℕ) (s : S) : Type 0 where
+    pub text : Text
+    pub noted : List Name
+    pub machine : Machines
+    pub holds : k.holds charge text noted s machine
+
+  -- with words of the text
+  pub record Standing (charge : ℕ) (text : Text) (s : S) : Type 0 where
+    pub words : List Name
+    pub noted : List Name
+    pub machine : Machines
+    pub knows : k.knows text s words
+    pub holds : k.holds charge text noted s machine
+
+  -- and a name of a body begins at the reader's place
+  pub record AtName (r : Reader) (s : S) : Type 0 where
+    pub standing : Standing 1 r.text.now s
+    pub inside : r.at < length r.text.now
+    pub begins : digit (get_or r.text.now r.at 0) ≡ true
+    pub short : length r.text.now ≤ 65535
     pub formed : well_formed r.text.now ≡ true
 
   -- THE STEPS: a turn's beginning, and copies of what is remembered

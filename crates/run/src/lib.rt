@@ -9,7 +9,7 @@ ghost use Rattle.definition.specs.Text as Text;
 ghost use Rattle.operator_names.specs.Fixed.{fixed};
 ghost use Rattle.text_cursor.specs.Reads.{rest};
 ghost use Rattle.text_words.specs.Waits.{Waits};
-ghost use Rattle.run.specs.Meaning.{Meaning, Knowing, AtName, begun, recalled, Steps, Notes, Naming, PlainNaming, Laws};
+ghost use Rattle.run.specs.Meaning.{Meaning, Knowing, ReadyAtName, begun, recalled, Steps, Notes, Naming, PlainNaming, Laws};
 ghost use Rattle.run.specs.Turns.{chained, turn_at, Letters, Turning, NameTurning, Stepping, Starts, Ending};
 
 use definition::{Operator, Refusal, Refused};
@@ -39,13 +39,13 @@ pub trait Machine {
 
     // Reads an identifier, notes its words, and performs it as a name.
     fn identifier(&mut self, text: &mut Reader) -> Result<(), Refusal>
-        requires { AtName meaning 1 text.old self.old × (length text.old.text.now ≤ 65535) × Knowing meaning text.old.text.now self.old }
+        requires { ReadyAtName meaning 1 text.old self.old × (length text.old.text.now ≤ 65535) × Knowing meaning text.old.text.now self.old }
         ensures { Naming meaning (meaning.one (meaning.ceiling self.old) (rest text.old)) 1 text.old text.new self.old self.new result };
 
     // Reads an identifier of one literal, whose words are not noted, and performs it as a name.
     // Returns where the literal begins; it ends at the reader's new place.
     fn literal(&mut self, text: &mut Reader) -> Result<usize, Refusal>
-        requires { AtName meaning 1 text.old self.old × meaning.begins_at text.old.at × (is "0" (get_or text.old.text.now text.old.at 0) ≡ false) }
+        requires { ReadyAtName meaning 1 text.old self.old × meaning.begins_at text.old.at × (is "0" (get_or text.old.text.now text.old.at 0) ≡ false) }
         ensures { PlainNaming meaning (meaning.one (meaning.ceiling self.old) (rest text.old)) 1 text.old text.new self.old self.new result };
 
     // Pushes that many copies of what is remembered at an index.
@@ -113,7 +113,7 @@ pub fn name_turn<M: Machine>(
     waiting: &mut Waiting,
     machine: &mut M,
 ) -> Result<(), Refusal>
-    requires { AtName M.meaning 0 text.old machine.old × (length text.old.text.now ≤ 65535) × Knowing M.meaning text.old.text.now machine.old × Waits text.old.text.now waiting.old }
+    requires { ReadyAtName M.meaning 0 text.old machine.old × (length text.old.text.now ≤ 65535) × Knowing M.meaning text.old.text.now machine.old × Waits text.old.text.now waiting.old }
     ensures { NameTurning M.meaning text.old text.new waiting.old waiting.new machine.old machine.new result }
 {
     machine.begin()?;
@@ -125,7 +125,7 @@ pub fn name_turn<M: Machine>(
 // Performs one turn where the byte at the reader's place is a digit other than `0`: a name of one
 // literal, whose words are not noted. Returns where the literal begins.
 pub fn plain_turn<M: Machine>(text: &mut Reader, machine: &mut M) -> Result<usize, Refusal>
-    requires { AtName M.meaning 0 text.old machine.old × M.meaning.begins_at text.old.at × (is "0" (get_or text.old.text.now text.old.at 0) ≡ false) }
+    requires { ReadyAtName M.meaning 0 text.old machine.old × M.meaning.begins_at text.old.at × (is "0" (get_or text.old.text.now text.old.at 0) ≡ false) }
     ensures { PlainNaming M.meaning (turn_at M.meaning text.old machine.old) 0 text.old text.new machine.old machine.new result }
 {
     machine.begin()?;

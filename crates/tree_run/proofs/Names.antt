@@ -25,18 +25,19 @@ use Rattle.text_identifiers.specs.Identifiers as I
 use Rattle.text_identifiers.specs.declared.Extent.{Extent}
 use Rattle.text_identifiers.proofs.Identifying.{place}
 use Rattle.text_identifiers.proofs.OneLiteral.{one_literal, one_refused}
-use Rattle.text_words.specs.Table.{Words, part, table, Fitting}
+use Rattle.text_words.specs.Table.{Words, part, table, Fitting, Lists}
 use Rattle.tree_nodes.specs.Gives.{nothing_spare, full_spare, Kept}
 use Rattle.tree_nodes.proofs.Taking.{less_spare}
-use Rattle.tree_records.specs.Holds.{Named, spelled, Inside, Holds, for_record, for_push, for_keeping}
+use Rattle.tree_records.specs.Holds.{Named, spelled, Inside, Holds, for_record, for_push, for_keeping, Ready}
 use Rattle.tree_records.specs.NamesOf.{Noted, noted, names_of}
 use Rattle.tree_records.specs.Trees.{Stays}
 use Rattle.tree_records.specs.declared.State.{State}
 use Rattle.tree_records.specs.declared.Trees.{Trees}
+use Rattle.run.proofs.Chains.{standing_ready}
 use Rattle.run.proofs.Readers.{moved}
-use Rattle.run.specs.Meaning.{AtName, Names, NotNamed, Plain, Fails}
-use Rattle.tree_run.specs.Meant.{Wrote, meant}
-use Rattle.tree_run.specs.Laws.{wrote_itself, lent_itself}
+use Rattle.run.specs.Meaning.{Standing, Names, NotNamed, Plain, Fails}
+use Rattle.tree_run.specs.Meant.{room, Reads, Wrote, meant}
+use Rattle.tree_run.specs.Laws.{wrote_itself, lent_itself, laws_met}
 use Rattle.tree_run.specs.declared.Reading.{Reading}
 use Rattle.tree_run.proofs.MoreWords.{holds_more}
 
@@ -50,8 +51,11 @@ one_name N text at h e m =
     ∙ ap (λ (t : Text). then_run (W.identifier m.words t) (λ x. D.name N x.name x.words) m) (sym (front text at h)))
 
 -- room for the name
-pub name_room : {r : Reader} {s : Reading} → AtName meant 1 r s → Inside s.trees.now.ws.now s.trees.now.n s.trees.now.state 5 1 1
-name_room p = let h = p.ready.holds in record { small = h.small; long = h.long; charged = h.charged; room = omega (arith, h.room); deep = omega (arith, h.deep); kept = omega (arith, h.kept) }
+pub ready_room : {w : List ℕ} {N : ℕ} {u : State} → Ready w N u (room 1) → Inside w N u 5 1 1
+ready_room p = let h = p.holds in record { small = h.small; long = h.long; charged = h.charged; room = omega (arith, h.room); deep = omega (arith, h.deep); kept = omega (arith, h.kept) }
+
+pub name_room : {text : Text} {s : Reading} → Standing meant 1 text s → Inside s.trees.now.ws.now s.trees.now.n s.trees.now.state 5 1 1
+name_room p = ready_room (standing_ready meant laws_met p)
 
 -- AN IDENTIFIER that was read becomes a node: what was read, what is known then, and that the name can
 -- be spelled
@@ -126,11 +130,15 @@ module _ (s : Reading) (r : Reader) (h : r.at < length r.text.now) (e : digit (g
           let here : record r { at = x.to } ≡ r₁ = moved r r₁ a.text a.here in
           subst (λ (q : Reader). Plain meant (D.one N (rest r)) 1 r q s (record s { trees = record s.trees { now = t } }) x.from) here (read_to x.from x.to a.lies)
 
+  -- an identifier that is refused
+  pub unread : (x : Refusal) → W.identifier (table r.text.now s.words) (rest r) ≡ refused (number x) → (words : List Name) (m : Demangler) → Lists r.text.now s.words words → Reads 1 r.text.now words s m → D.one N (rest r) m ≡ refused (number x)
+  unread x a words m q p =
+      let read : W.identifier m.words (rest r) ≡ refused (number x) = ap (λ (ws : List Name). W.identifier ws (rest r)) (sym p.words ∙ sym q.is) ∙ a in
+      refused_at N r.text.now r.at h e m read
+
   pub not_named : (after : Words) {r₁ : Reader} {x : Refusal} → Refuses (W.identifier (table r.text.now s.words) (rest r)) x r r₁ → Fitting r.text.now after → NotNamed meant (D.one N (rest r)) 1 r r₁ s (record s { words = after }) x
   not_named after a f = record {
-    refuses = λ words m q p.
-        let read : W.identifier m.words (rest r) ≡ refused (number _) = ap (λ (ws : List Name). W.identifier ws (rest r)) (sym p.words ∙ sym q.is) ∙ a.is in
-        refused_at N r.text.now r.at h e m read;
+    refuses = unread _ a.is;
     text = a.text;
     knowing = λ k. record { words = table r.text.now after; knows = record { is = refl; fitting = f } };
     wrote = record { trees = refl; wrote = wrote_itself s.trees.now };

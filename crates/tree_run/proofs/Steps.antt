@@ -3,7 +3,7 @@ use Rattle.std.specs.Prelude.{if◌then◌else◌, Result, Ok, Err}
 use mathlib.Core.Path.{◌≡◌, refl, sym, ap, subst}
 use mathlib.Core.Bool.{Bool, true, false}
 use mathlib.Core.List.{List}
-use Prim.Native.Nat.{ℕ, suc, ◌+◌, ◌≤◌}
+use Prim.Native.Nat.{ℕ, suc, ◌+◌, ◌*◌, ◌≤◌}
 use Prim.Native.String.{String}
 use native.Mathlib.Omega.{arith}
 use lib.Dec.{ltb}
@@ -28,17 +28,22 @@ use Rattle.definition.proofs.WordsAdded.{Begins}
 use Rattle.tree_nodes.specs.Trees.{step_of}
 use Rattle.tree_nodes.specs.Trees as T
 use Rattle.tree_copies.specs.Copies.{Recalled, recall_copies}
-use Rattle.tree_records.specs.Holds.{Names, Holds}
+use Rattle.tree_records.specs.Holds.{Names, Holds, Ready}
 use Rattle.tree_records.specs.NamesOf.{noted, names_of}
 use Rattle.tree_records.specs.Trees.{Stays}
 use Rattle.tree_records.specs.declared.Trees.{Trees}
-use Rattle.run.specs.Meaning.{begun, Does, Refuses, Steps, Notes}
+use Rattle.run.proofs.Chains as Chains
+use Rattle.run.specs.Meaning.{begun, Does, Refuses, Steps, Notes, Holding}
 use Rattle.tree_run.specs.Beginnings as Beginnings
 use Rattle.tree_run.specs.Beginnings.{Missing, no_step, no_charge}
 use Rattle.tree_run.specs.Meant.{room, meant}
-use Rattle.tree_run.specs.Laws.{wrote_itself, lent_itself}
+use Rattle.tree_run.specs.Laws.{wrote_itself, lent_itself, laws_met}
 use Rattle.tree_run.specs.declared.Reading.{Reading}
 use Rattle.tree_run.proofs.MoreWords.{holds_more}
+
+-- what a method of `Trees` requires
+pub holding_ready : {charge : ℕ} {s : Reading} → Holding meant charge s → Ready s.trees.now.ws.now s.trees.now.n s.trees.now.state (record { makes = 15 * charge; pushes = charge; nodes = 4 * charge; keeps = charge })
+holding_ready h = Chains.holding_ready meant laws_met h
 
 -- the trees hold the machine, with names of any text
 abbrev Stored : (charge : ℕ) → Names → Reading → Demangler → Type 0
@@ -54,11 +59,11 @@ step_total b c = go (ltb b.steps 4096)
     go false e = let z : ◌≡◌ {A = ℕ} 0 1 = cc in absurd (omega arith)
 
 -- the trees with another budget
-abbrev with_budget : Budget → Reading → Reading
+abbrev pub with_budget : Budget → Reading → Reading
 with_budget b s = record s { trees = record s.trees { now = record s.trees.now { state = record s.trees.now.state { budget = b } } } }
 
 module _ (s : Reading) (b : Budget) (q : B.step (budget_of s.trees.now.state.budget) ≡ ok tt (budget_of b)) where
-  begin_charged : (d : Budget) → B.charge s.trees.now.n 1 (budget_of b) ≡ ok tt (budget_of d) → Steps meant (begun meant s.trees.now.n) 0 1 s (with_budget d s) (Ok tt)
+  pub begin_charged : (d : Budget) → B.charge s.trees.now.n 1 (budget_of b) ≡ ok tt (budget_of d) → Steps meant (begun meant s.trees.now.n) 0 1 s (with_budget d s) (Ok tt)
   unfolding M.spend
   begin_charged d e =
       let a : b.total ≡ s.trees.now.state.budget.total = step_total (budget_of s.trees.now.state.budget) (budget_of b) q in
@@ -88,11 +93,11 @@ module _ (s : Reading) (b : Budget) (q : B.step (budget_of s.trees.now.state.bud
         wrote = record { trees = refl; wrote = record { stays = record { slice = refl; ceiling = refl }; beyond = beyond_itself s.trees.now.ws.now s.trees.now.n } };
       }
 
-  begin_uncharged : (r : Refusal) → B.charge s.trees.now.n 1 (budget_of b) ≡ refused (number r) → Steps meant (begun meant s.trees.now.n) 0 1 s s (Err r)
+  pub begin_uncharged : (r : Refusal) → B.charge s.trees.now.n 1 (budget_of b) ≡ refused (number r) → Steps meant (begun meant s.trees.now.n) 0 1 s s (Err r)
   unfolding M.spend
   begin_uncharged r e = record { refuses = λ text all m h. rw (← h.budget, q, e) refl; knowing = λ text k. k; wrote = lent_itself s }
 
-begin_stopped : (s : Reading) (r : Refusal) → B.step (budget_of s.trees.now.state.budget) ≡ refused (number r) → Steps meant (begun meant s.trees.now.n) 0 1 s s (Err r)
+pub begin_stopped : (s : Reading) (r : Refusal) → B.step (budget_of s.trees.now.state.budget) ≡ refused (number r) → Steps meant (begun meant s.trees.now.n) 0 1 s s (Err r)
 unfolding M.spend
 begin_stopped s r q = record { refuses = λ text all m h. rw (← h.budget, q) refl; knowing = λ text k. k; wrote = lent_itself s }
 

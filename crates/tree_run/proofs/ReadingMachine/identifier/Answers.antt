@@ -1,6 +1,6 @@
 use Rattle.std.proofs.Common.{arith}
 use Rattle.std.proofs.lemmas.Result.{err_from_is_err_and}
-use Rattle.tree_run.proofs.Names.{name_room, named, not_named}
+use Rattle.tree_run.proofs.Names.{ready_room, named, not_named}
 use Rattle.tree_run.proofs.ReadingMachine.identifier.Goals as goal
 
 pub returns-in_err-identifier : goal.returns-in_err-identifier
@@ -10,7 +10,7 @@ returns-in_err-identifier c =
     (not_named c.args.self.now c.args.text.now c.requires.0.inside c.requires.0.begins c.identifier.new.words c.in_err-identifier.ensures.answer c.in_err-identifier.ensures.fitting)
 
 pub push_name-requires : goal.push_name-requires
-push_name-requires c = (name_room c.requires.0, omega (arith, c.requires.0.inside, c.requires.1))
+push_name-requires c = (ready_room c.requires.0.ready, omega (arith, c.requires.0.inside, c.requires.1))
 
 pub returns : goal.returns
 returns c =

@@ -1,5 +1,5 @@
 use Rattle.std.proofs.lemmas.Result.{err_from_is_err_and}
-use Rattle.tree_run.proofs.Names.{name_room, plain, not_plain}
+use Rattle.tree_run.proofs.Names.{ready_room, plain, not_plain}
 use Rattle.tree_run.proofs.ReadingMachine.literal.Goals as goal
 
 pub returns-in_err-bytes : goal.returns-in_err-bytes
@@ -9,7 +9,7 @@ returns-in_err-bytes c =
     (not_plain c.args.self.now c.args.text.now c.requires.0.inside c.requires.0.begins c.requires.2 c.in_err-bytes.ensures)
 
 pub push_name-requires : goal.push_name-requires
-push_name-requires c = (name_room c.requires.0, c.requires.1)
+push_name-requires c = (ready_room c.requires.0.ready, c.requires.1)
 
 pub returns : goal.returns
 returns c =
